@@ -1,0 +1,81 @@
+-- The tables after a change is placed.
+-- Assumes nothing.
+use mathlib.Core.Bool.{Bool, cond}
+use mathlib.Core.List.{List, [], _∷_}
+use Prim.Native.Nat.{ℕ, zero, suc, _+_, _*_, _/_}
+use lib.Dec.{eqb}
+use lib.ListN.{length, set, replicate}
+use lib.Seq.{paste}
+use Rattle.paper.specs.Lists.{hashAt}
+use Rattle.hash.specs.Hash.{findHash}
+use Rattle.hash.specs.declared.Found.{Found}
+use Rattle.hash.specs.declared.Found.the-variants.{At, Unknown as Nowhere}
+use Rattle.tables.specs.Tables.{Tables, changes, edges, actorRoom}
+use Rattle.graph.specs.declared.Judged.{Judged}
+use Rattle.graph.specs.declared.Judged.the-variants.{Done, Malformed, Known, Unknown, NoActor, WrongSequence, BadOps, TooManyDeps, NoNodeRoom, NoEdgeRoom}
+use Rattle.graph.specs.Judge.{Change, depCount, judged}
+
+-- the node that was found
+abbrev pub nodeOf : Found → ℕ
+nodeOf (At k) = k
+nodeOf Nowhere = 0
+
+-- the nodes of the `left` hashes of ds from i on
+unfoldable pub nodesFrom : List ℕ → ℕ → List ℕ → ℕ → ℕ → List ℕ
+nodesFrom hs n ds zero i = []
+nodesFrom hs n ds (suc left) i = nodeOf (findHash hs n (hashAt ds i)) ∷ nodesFrom hs n ds left (suc i)
+
+-- the nodes of the hashes of ds, in the order listed
+abbrev pub nodesOf : List ℕ → ℕ → List ℕ → List ℕ
+nodesOf hs n ds = nodesFrom hs n ds (length ds / 32) 0
+
+-- the nexts of the `left` edges from edge e on: each names the edge after it, and the last none
+unfoldable pub nextsFrom : ℕ → ℕ → List ℕ
+nextsFrom zero e = []
+nextsFrom (suc left) e = cond (eqb left 0) 0 (e + 2) ∷ nextsFrom left (suc e)
+
+-- the first edge + 1 of a node whose d edges start at e, or 0
+abbrev pub firstEdge : ℕ → ℕ → ℕ
+firstEdge d e = cond (eqb d 0) 0 (e + 1)
+
+-- the nodes table where the listed nodes are heads no more
+unfoldable pub unheaded : List ℕ → List ℕ → List ℕ
+unheaded [] ns = ns
+unheaded (k ∷ ks) ns = unheaded ks (set ns (6 * k + 5) 0)
+
+-- the nodes table with the record of node n, which is a head
+abbrev pub withNode : List ℕ → ℕ → ℕ → ℕ → ℕ → ℕ → ℕ → List ℕ
+withNode ns n a s m c f = set (set (set (set (set (set ns (6 * n) a) (6 * n + 1) s) (6 * n + 2) m) (6 * n + 3) c) (6 * n + 4) f) (6 * n + 5) 1
+
+-- the change's dependencies as nodes
+abbrev pub depsOf : Tables → Change → List ℕ
+depsOf t x = nodesOf (t .hashes) (changes t) (x .deps)
+
+-- the change takes the next node, and its dependencies the next edges. Its clock is not cached
+abbrev pub placed : Tables → Change → Tables
+placed t x =
+    record {
+      hashes = paste (t .hashes) (32 * changes t) (x .hash) (length (x .hash));
+      nodes = withNode (unheaded (depsOf t x) (t .nodes)) (changes t) (x .actor) (x .seq) (x .max-op) (x .ops) (firstEdge (depCount x) (edges t));
+      targets = paste (t .targets) (edges t) (depsOf t x) (depCount x);
+      nexts = paste (t .nexts) (edges t) (nextsFrom (depCount x) (edges t)) (depCount x);
+      clocks = paste (t .clocks) (changes t * actorRoom t) (replicate (actorRoom t) 0) (actorRoom t);
+      counts = set (set (t .counts) 0 (changes t + 1)) 1 (edges t + depCount x);
+    }
+
+-- the new tables where the answer is Done, and else the old ones
+abbrev pub ifDone : Judged → Tables → Tables → Tables
+ifDone Done new old = new
+ifDone Malformed new old = old
+ifDone Known new old = old
+ifDone (Unknown i) new old = old
+ifDone NoActor new old = old
+ifDone WrongSequence new old = old
+ifDone BadOps new old = old
+ifDone TooManyDeps new old = old
+ifDone NoNodeRoom new old = old
+ifDone NoEdgeRoom new old = old
+
+-- the tables after the change was judged and, if accepted, placed
+abbrev pub added : Tables → Change → Tables
+added t x = ifDone (judged t x) (placed t x) t

@@ -1,0 +1,7 @@
+pub mod Blend
+pub mod Cases
+pub mod Iff
+pub mod Over
+pub mod Paste
+pub mod Placed
+pub mod Rest

@@ -1,0 +1,15 @@
+pub mod Bools
+pub mod Count
+pub mod Hashes
+pub mod History
+pub mod Clock
+pub mod Chain
+pub mod Extend
+pub mod Heads
+pub mod Walk
+pub mod Tests
+pub mod Relabel
+pub mod Ready
+pub mod Dropped
+pub mod Books
+pub mod Samples
