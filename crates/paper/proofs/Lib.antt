@@ -1,5 +1,6 @@
 pub mod Bools
 pub mod Count
+pub mod First
 pub mod Hashes
 pub mod History
 pub mod Clock
