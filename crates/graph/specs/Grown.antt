@@ -22,8 +22,9 @@ use Rattle.tables.specs.Valid.Laid.{none, bare, some}
 use Rattle.tables.specs.LaidLaws.{NodeLaid, laid-first, laid-same}
 use Rattle.tables.specs.LaidLaws.NodeLaid.{no-list, a-list}
 use Rattle.tables.specs.DepsLaws.{node-along, along-same, next-inside}
-use Rattle.graph.specs.Judge.{Change, depCount}
-use Rattle.graph.specs.JudgeLaws.{Accepted}
+use Rattle.paper.specs.Adding.{Change}
+use Rattle.judge.specs.Judge.{depCount}
+use Rattle.judge.specs.JudgeLaws.{Accepted}
 use Rattle.graph.specs.Place.{nextsFrom, firstEdge, unheaded, withNode, depsOf, placed}
 use Rattle.graph.specs.PlaceLaws.{Fits, fits, nexts-long, nexts-more, nexts-last, unheaded-long, unheaded-other, unheaded-at, deps-long, new-targets, new-targets-low}
 

@@ -19,9 +19,10 @@ use Rattle.hash.specs.declared.Found.the-variants.{Unknown as Nowhere}
 use Rattle.tables.specs.Tables.{Tables, changes, edges, actors, changeRoom, actorRoom, actorAt, seqAt, maxOpAt, opsAt, headAt, entryAt, graph}
 use Rattle.tables.specs.Valid.{Counts, Distinct, NumbersAt, Numbers, Running, Heads, Rows, Sound, Valid, countOf}
 use Rattle.tables.specs.DepsLaws.{valid-graph}
-use Rattle.graph.specs.declared.Judged.the-variants.{Done}
-use Rattle.graph.specs.Judge.{Change, depCount, judged}
-use Rattle.graph.specs.JudgeLaws.{Accepted, accepted}
+use Rattle.judge.specs.declared.Judged.the-variants.{Done}
+use Rattle.paper.specs.Adding.{Change}
+use Rattle.judge.specs.Judge.{depCount, judged}
+use Rattle.judge.specs.JudgeLaws.{Accepted, accepted}
 use Rattle.graph.specs.Place.{depsOf, placed}
 use Rattle.graph.specs.PlaceLaws.{Fits, fits, deps-long, nodes-low}
 use Rattle.graph.specs.Grown.{new-changes, new-edges, new-actors, new-width, new-lengths, hashes-long, targets-long, old-hash, new-hash, old-number, old-actor, old-head, new-actor, new-seq, new-max, new-ops, new-head, new-laid, old-deps, new-deps, old-entry, new-entry}

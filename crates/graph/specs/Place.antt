@@ -11,9 +11,10 @@ use Rattle.hash.specs.Hash.{findHash}
 use Rattle.hash.specs.declared.Found.{Found}
 use Rattle.hash.specs.declared.Found.the-variants.{At, Unknown as Nowhere}
 use Rattle.tables.specs.Tables.{Tables, changes, edges, actorRoom}
-use Rattle.graph.specs.declared.Judged.{Judged}
-use Rattle.graph.specs.declared.Judged.the-variants.{Done, Malformed, Known, Unknown, NoActor, WrongSequence, BadOps, TooManyDeps, NoNodeRoom, NoEdgeRoom}
-use Rattle.graph.specs.Judge.{Change, depCount, judged}
+use Rattle.judge.specs.declared.Judged.{Judged}
+use Rattle.judge.specs.declared.Judged.the-variants.{Done, Malformed, Known, Unknown, NoActor, WrongSequence, BadOps, TooManyDeps, NoNodeRoom, NoEdgeRoom}
+use Rattle.paper.specs.Adding.{Change}
+use Rattle.judge.specs.Judge.{depCount, judged}
 
 -- the node that was found
 abbrev pub nodeOf : Found → ℕ

@@ -25,11 +25,12 @@ use Rattle.laws.specs.Paste.{paste-long, paste-low, paste-in, paste-part}
 use Rattle.tables.specs.Tables.{Tables, tables, changes, edges, actors, changeRoom, actorRoom, actorAt}
 use Rattle.tables.specs.Valid.{Valid}
 use Rattle.tables.specs.CheckLaws.{tally-bound}
-use Rattle.graph.specs.Judge.{Change, depCount, judged, numberOf}
-use Rattle.graph.specs.JudgeLaws.{Accepted}
+use Rattle.paper.specs.Adding.{Change}
+use Rattle.judge.specs.Judge.{depCount, judged, numberOf}
+use Rattle.judge.specs.JudgeLaws.{Accepted}
 use Rattle.graph.specs.Place.{nodeOf, nodesFrom, nextsFrom, unheaded, depsOf, placed, ifDone, added}
-use Rattle.graph.specs.declared.Judged.{Judged}
-use Rattle.graph.specs.declared.Judged.the-variants.{Done, Malformed, Known as AlreadyKnown, Unknown, NoActor, WrongSequence, BadOps, TooManyDeps, NoNodeRoom, NoEdgeRoom}
+use Rattle.judge.specs.declared.Judged.{Judged}
+use Rattle.judge.specs.declared.Judged.the-variants.{Done, Malformed, Known as AlreadyKnown, Unknown, NoActor, WrongSequence, BadOps, TooManyDeps, NoNodeRoom, NoEdgeRoom}
 
 -- ---- dependencies as nodes
 

@@ -9,8 +9,9 @@ use Rattle.hash.specs.Hash.{sameHash, findFrom, findHash, unknownFrom, firstUnk
 use Rattle.paper.specs.Lists.{mem, pick, tally, some-below}
 use Rattle.paper.specs.Graph.{wanted, head-nodes}
 use Rattle.tables.specs.Tables.{Tables, tables, widthOf, links, graph}
-use Rattle.graph.specs.declared.Judged.the-variants.{Done, Known, Unknown, WrongSequence, BadOps, NoNodeRoom}
-use Rattle.graph.specs.Judge.{Change, change, judged}
+use Rattle.judge.specs.declared.Judged.the-variants.{Done, Known, Unknown, WrongSequence, BadOps, NoNodeRoom}
+use Rattle.paper.specs.Adding.{Change}
+use Rattle.judge.specs.Judge.{change, judged}
 use Rattle.graph.specs.Place.{nodesFrom, nextsFrom, unheaded, placed}
 
 -- Hn: the digit n 64 times

@@ -10,8 +10,8 @@ use Rattle.tables.specs.Valid.{countOf}
 use Rattle.tables.specs.CheckLaws.{tally-step, tally-bound}
 use borrow.Author.Needs.{needs}
 use native.Mathlib.Omega.{arith}
-use Rattle.graph.proofs.count_of.Statement.{statement}
-use Rattle.graph.proofs.count_of.Tie as tie
+use Rattle.judge.proofs.count_of.Statement.{statement}
+use Rattle.judge.proofs.count_of.Tie as tie
 
 abbrev Inv-loop : tie.InvT-loop
 Inv-loop nodes n actor c₀ k₀ c k = (k ≤ n) × (c ≡ countOf nodes actor k)
