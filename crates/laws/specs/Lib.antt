@@ -3,5 +3,4 @@ pub mod Cases
 pub mod Iff
 pub mod Over
 pub mod Paste
-pub mod Placed
 pub mod Rest

@@ -13,4 +13,6 @@ pub mod Relabel
 pub mod Ready
 pub mod Dropped
 pub mod Books
+pub mod Text
+pub mod Session
 pub mod Samples

@@ -4,4 +4,8 @@ pub mod Graph
 pub mod Caching
 pub mod Adding
 pub mod Queue
+pub mod Text
+pub mod Command
+pub mod Session
+pub mod Pieces
 pub mod Samples

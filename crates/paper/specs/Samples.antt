@@ -9,6 +9,7 @@ use Rattle.paper.specs.Lists.{each-below, hashes-of, hashAt}
 use Rattle.paper.specs.Numbers.{number, no-owner}
 use Rattle.paper.specs.Graph.{Graph, nodes, clock, op-clock, missing, owner, heads, chained-old-test}
 use Rattle.paper.specs.Adding.{Hub, Change, Verdict, plain, unknown, outcome, judged, added}
+use Rattle.paper.specs.Session.{bench}
 use Rattle.paper.specs.Queue.{Waiting, Queue, of-list, order}
 
 -- ---- questions and answers
@@ -58,35 +59,25 @@ H n = replicate 32 (17 * n)
 abbrev pub change : ℕ → ℕ → ℕ → ℕ → ℕ → List ℕ → Change
 change h a s m c ds = record { hash = H h; actor = a; seq = s; max-op = m; ops = c; deps = ds }
 
--- an empty graph of the bench room
-abbrev pub opened : ℕ → Hub
-opened n =
-    record {
-      graph = record { size = 0; hash = λ k. []; actor = λ k. 0; seq = λ k. 0; max-op = λ k. 0; ops = λ k. 0; deps = λ k. [] };
-      actors = n;
-      change-room = 256;
-      edge-room = 1024;
-    }
-
 unfoldable pub all-added : Hub → List Change → Hub
 all-added u [] = u
 all-added u (x ∷ xs) = all-added (added u x) xs
 
 -- the worked example: H1, then H2 and H3 on it
 abbrev pub worked : Hub
-worked = all-added (opened 2) (change 1 0 1 3 3 [] ∷ change 2 1 1 5 2 (H 1) ∷ change 3 0 2 5 2 (H 1) ∷ [])
+worked = all-added (bench 2) (change 1 0 1 3 3 [] ∷ change 2 1 1 5 2 (H 1) ∷ change 3 0 2 5 2 (H 1) ∷ [])
 
 -- P9: H2 of the same actor does not depend on H1
 abbrev pub loose : Hub
-loose = all-added (opened 1) (change 1 0 1 1 1 [] ∷ change 2 0 2 2 1 [] ∷ [])
+loose = all-added (bench 1) (change 1 0 1 1 1 [] ∷ change 2 0 2 2 1 [] ∷ [])
 
 -- P10: max op 7, count 0
 abbrev pub idle : Hub
-idle = all-added (opened 1) (change 1 0 1 7 0 [] ∷ [])
+idle = all-added (bench 1) (change 1 0 1 7 0 [] ∷ [])
 
 -- P11: sequence 1 with max op 9, then 2 with max op 4
 abbrev pub falling : Hub
-falling = all-added (opened 1) (change 1 0 1 9 1 [] ∷ change 2 0 2 4 1 (H 1) ∷ [])
+falling = all-added (bench 1) (change 1 0 1 9 1 [] ∷ change 2 0 2 4 1 (H 1) ∷ [])
 
 -- a waiting change of its own actor, by its letter and the letters that it needs
 abbrev pub wait : ℕ → List ℕ → Waiting
@@ -104,8 +95,8 @@ sample q a = record { asked = q; told = a }
 abbrev pub samples : List Sample
 samples =
     -- P1: an empty graph has no heads and an empty clock
-    sample (heads? (opened 2)) (hashes [])
-    ∷ sample (clock? (opened 2) (H 1 ∷ [])) (entries (0 ∷ 0 ∷ []))
+    sample (heads? (bench 2)) (hashes [])
+    ∷ sample (clock? (bench 2) (H 1 ∷ [])) (entries (0 ∷ 0 ∷ []))
     -- P2: an unknown head has an empty clock, and all is missing
     ∷ sample (clock? worked (H 9 ∷ [])) (entries (0 ∷ 0 ∷ []))
     ∷ sample (missing? worked (H 9 ∷ [])) (hashes (H 1 ∷ H 2 ∷ H 3 ∷ []))
