@@ -16,3 +16,4 @@ pub mod Books
 pub mod Text
 pub mod Session
 pub mod Samples
+pub mod SessionSamples

@@ -4,8 +4,10 @@ pub mod Graph
 pub mod Caching
 pub mod Adding
 pub mod Queue
+pub mod Bytes
 pub mod Text
 pub mod Command
 pub mod Session
 pub mod Pieces
 pub mod Samples
+pub mod SessionSamples

@@ -6,6 +6,7 @@ use mathlib.Core.Option.{Option, none, some}
 use Prim.Native.Nat.{ℕ, suc}
 use lib.Dec.{leb, ltb}
 use lib.ListN.{length, drop, replicate}
+use Rattle.paper.specs.Bytes.{bytes}
 use Rattle.paper.specs.Lists.{each-below, sameList, hashAt}
 use Rattle.paper.specs.Numbers.{number, done, unknown-dependency, no-owner, short-buffer}
 use Rattle.paper.specs.Graph as graph
@@ -84,7 +85,7 @@ pub record Told : Type 0 where
 
 -- `bad`, tab, the line's number, LF
 unfoldable pub badText : ℕ → List ℕ
-badText n = answerLine (98 ∷ 97 ∷ 100 ∷ []) (digitsOf n)
+badText n = answerLine (bytes "bad") (digitsOf n)
 
 -- line n is bad, and nothing follows
 unfoldable pub badLine : ℕ → Told
