@@ -1,2 +1,4 @@
 pub mod Judge
 pub mod JudgeLaws
+pub mod Hub
+pub mod HubLaws

@@ -10,6 +10,7 @@ pub mod Heads
 pub mod Walk
 pub mod Tests
 pub mod Relabel
+pub mod Same
 pub mod Ready
 pub mod Dropped
 pub mod Books
