@@ -8,6 +8,8 @@ pub mod Chain
 pub mod Extend
 pub mod Heads
 pub mod Walk
+pub mod Each
+pub mod Cached
 pub mod Tests
 pub mod Relabel
 pub mod Same
