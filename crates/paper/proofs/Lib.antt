@@ -20,3 +20,6 @@ pub mod Text
 pub mod Session
 pub mod Samples
 pub mod SessionSamples
+pub mod Scans
+pub mod Naming
+pub mod Loading

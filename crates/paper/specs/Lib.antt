@@ -3,6 +3,7 @@ pub mod Numbers
 pub mod Graph
 pub mod Caching
 pub mod Adding
+pub mod Loading
 pub mod Queue
 pub mod Bytes
 pub mod Text

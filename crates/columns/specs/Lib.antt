@@ -1,0 +1,3 @@
+pub mod Columns
+pub mod ColumnsLaws
+pub mod JudgeLaws
