@@ -2,6 +2,7 @@ pub mod Bools
 pub mod Count
 pub mod First
 pub mod Hashes
+pub mod Ascending
 pub mod History
 pub mod Clock
 pub mod Chain
