@@ -1,0 +1,2 @@
+pub mod Actors
+pub mod ActorLaws
