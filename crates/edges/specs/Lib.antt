@@ -1,0 +1,4 @@
+pub mod Edges
+pub mod EdgesLaws
+pub mod WalkLaws
+pub mod Told
