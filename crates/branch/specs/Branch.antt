@@ -8,10 +8,13 @@ use lib.ListN.{length, getD, take}
 use Rattle.paper.specs.Lists.{mem, names, pick, tally}
 use Rattle.paper.specs.Queue.{dropFrom, dropped, kept}
 use Rattle.paper.proofs.Dropped.{Spread}
-use Rattle.paper.specs.Lists.{hashAt}
-use Rattle.ready.specs.Tables.{queueOf, hashesFrom, depCount, DepsHeld}
-use Rattle.queue.specs.Valid.{waiting}
-use Rattle.queue.specs.Release.{TakenOut}
+use Rattle.paper.specs.Lists.{hashAt, hashes-from}
+use Rattle.ready.specs.Tables.{queueOf, depCount, DepsHeld}
+use Rattle.paper.specs.Numbers.{number, done, not-valid}
+use Rattle.waiting.specs.Valid.{waiting, Same}
+use Rattle.waiting.specs.Taken.{TakenOut}
+use Rattle.branch.specs.declared.Removed.{Removed}
+use Rattle.branch.specs.declared.Removed.the-variants.{Done, NotValid}
 
 -- record i is the actor's, at or after the sequence
 abbrev pub onBranch : List ℕ → ℕ → ℕ → ℕ → Bool
@@ -19,7 +22,7 @@ onBranch ns key from i = eqb (getD ns (5 * i) 0) key && leb from (getD ns (5 * i
 
 -- record i depends on record k
 unfoldable pub dependsOn : List ℕ → List ℕ → List ℕ → ℕ → ℕ → Bool
-dependsOn hs ns ds k i = names (hashAt hs k) (hashesFrom ds (depCount ns i) (32 * i))
+dependsOn hs ns ds k i = names (hashAt hs k) (hashes-from ds (depCount ns i) (32 * i))
 
 -- and is not listed
 abbrev pub newChild : List ℕ → List ℕ → List ℕ → ℕ → List ℕ → ℕ → Bool
@@ -55,3 +58,13 @@ pub record DropList (hs ns ds : List ℕ) (n key from : ℕ) (list₀ : List ℕ
 -- the positions of what is kept
 unfoldable pub keptOf : List ℕ → List ℕ → List ℕ → List ℕ → ℕ → ℕ → List ℕ
 keptOf hs ns ds cs key from = kept (queueOf hs ns ds (waiting cs)) key from
+
+-- the paper's numbers
+abbrev pub numberOf : Removed → ℕ
+numberOf Done = number done
+numberOf NotValid = number not-valid
+
+-- on 0 the kept ones stand in the queue, on 1 nothing changed
+unfoldable pub RemovedTo : Removed → List ℕ → List ℕ → List ℕ → List ℕ → ℕ → ℕ → List ℕ → List ℕ → List ℕ → List ℕ → Type 0
+RemovedTo Done hs ns ds cs key from hs′ ns′ ds′ cs′ = TakenOut hs ns ds cs (keptOf hs ns ds cs key from) hs′ ns′ ds′ cs′
+RemovedTo NotValid hs ns ds cs key from hs′ ns′ ds′ cs′ = Same hs ns ds cs hs′ ns′ ds′ cs′

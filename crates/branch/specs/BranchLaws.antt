@@ -13,36 +13,36 @@ use Rattle.paper.specs.Queue.{branch, children, dropFrom, dropped, kept}
 use Rattle.paper.proofs.Bools.{mem-getD}
 use Rattle.paper.proofs.Count.{pick-more, pick-length, tally-more, tally-most, tally-wider}
 use Rattle.paper.proofs.Dropped.{spread-start, spread-most, spread-next, drop-turn, drop-stop, dropped-low}
-use Rattle.paper.specs.Lists.{hashAt}
-use Rattle.ready.specs.Tables.{hashesFrom, queueOf}
+use Rattle.paper.specs.Lists.{hashAt, hashes-from}
+use Rattle.ready.specs.Tables.{queueOf}
 use Rattle.branch.specs.Branch.{PutAfter, onBranch, dependsOn, newChild, Spreading, DropList, Droppable, keptOf}
 use Rattle.records.specs.Records.{unlisted}
-use Rattle.queue.specs.Valid.{waiting, Valid}
-use Rattle.queue.specs.Release.{TakenOut}
-use Rattle.queue.specs.ReleaseLaws.{valid-rooms, valid-small}
+use Rattle.waiting.specs.Valid.{waiting, Valid}
+use Rattle.waiting.specs.ValidLaws.{valid-rooms, valid-small}
+use Rattle.waiting.specs.Taken.{TakenOut}
 
 -- ---- the scan of a list of hashes
 
 module _ (h ds : List ℕ) (first m : ℕ) where
-  pub names-start : names h (hashesFrom ds (m - 0) (first + 0)) ≡ names h (hashesFrom ds m first)
+  pub names-start : names h (hashes-from ds (m - 0) (first + 0)) ≡ names h (hashes-from ds m first)
   names-start = rw (sub-zero, add-zero first)
 
   module _ (j : ℕ) where
-    step : j < m → names h (hashesFrom ds (m - j) (first + j)) ≡ (sameList (hashAt ds (first + j)) h || names h (hashesFrom ds (m - (j + 1)) (first + (j + 1))))
-    unfolding names hashesFrom
+    step : j < m → names h (hashes-from ds (m - j) (first + j)) ≡ (sameList (hashAt ds (first + j)) h || names h (hashes-from ds (m - (j + 1)) (first + (j + 1))))
+    unfolding names hashes-from
     step l =
         let s : m - j ≡ suc (m - (j + 1)) = omega arith in
         let e : suc (first + j) ≡ first + (j + 1) = omega arith in
         rw (s, ← e)
 
-    pub names-hit : j < m → sameList (hashAt ds (first + j)) h ≡ true → names h (hashesFrom ds (m - j) (first + j)) ≡ true
+    pub names-hit : j < m → sameList (hashAt ds (first + j)) h ≡ true → names h (hashes-from ds (m - j) (first + j)) ≡ true
     names-hit l t = step l ∙ rw t
 
-    pub names-next : j < m → sameList (hashAt ds (first + j)) h ≡ false → names h (hashesFrom ds (m - j) (first + j)) ≡ names h (hashesFrom ds (m - (j + 1)) (first + (j + 1)))
+    pub names-next : j < m → sameList (hashAt ds (first + j)) h ≡ false → names h (hashes-from ds (m - j) (first + j)) ≡ names h (hashes-from ds (m - (j + 1)) (first + (j + 1)))
     names-next l f = step l ∙ rw f
 
-    pub names-end : m ≤ j → names h (hashesFrom ds (m - j) (first + j)) ≡ false
-    unfolding names hashesFrom
+    pub names-end : m ≤ j → names h (hashes-from ds (m - j) (first + j)) ≡ false
+    unfolding names hashes-from
     names-end l = let z : m - j ≡ 0 = omega arith in rw z
 
 -- ---- putting after

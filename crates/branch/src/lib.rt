@@ -3,22 +3,29 @@ use hash::same_at;
 use ready::put_if;
 use records::close_up;
 use records::is_listed;
+use waiting::valid;
 ghost use mathlib.Core.Path.{_≡_};
 ghost use mathlib.Core.Bool.{_&&_, not};
 ghost use Prim.Native.Nat.{ℕ, _+_, _*_, _≤_, _<_};
 ghost use lib.Dec.{eqb, leb};
 ghost use lib.ListN.{length, take, getD};
 ghost use Rattle.paper.specs.Lists.{names, mem, tally};
-ghost use Rattle.paper.specs.Lists.{hashAt};
-ghost use Rattle.ready.specs.Tables.{hashesFrom, depCount, DepsHeld};
-ghost use Rattle.branch.specs.Branch.{onBranch, newChild, PutAfter, Droppable, DropList, keptOf};
-ghost use Rattle.queue.specs.Valid.{Valid};
-ghost use Rattle.queue.specs.Release.{TakenOut};
+ghost use Rattle.paper.specs.Lists.{hashAt, hashes-from};
+ghost use Rattle.ready.specs.Tables.{depCount, DepsHeld};
+ghost use Rattle.branch.specs.Branch.{onBranch, newChild, PutAfter, Droppable, DropList, keptOf, RemovedTo};
+ghost use Rattle.waiting.specs.Valid.{Valid, Checked};
+ghost use Rattle.waiting.specs.Taken.{TakenOut};
+
+// What dropping a branch answers.
+pub enum Removed {
+    Done,
+    NotValid,
+}
 
 // Is one of the m hashes of `deps` from hash `first` on the hash k of `hashes`?
 fn depends(hashes: &[u8], k: usize, deps: &[u8], first: usize, m: usize) -> bool
     requires { ⌜ (32 * k + 32 ≤ length (now hashes)) × (32 * (first + m) ≤ length (now deps)) ⌝ }
-    ensures { λ r. ⌜ r ≡ names (hashAt (now (hashes .entry)) k) (hashesFrom (now (deps .entry)) m first) ⌝ }
+    ensures { λ r. ⌜ r ≡ names (hashAt (now (hashes .entry)) k) (hashes-from (now (deps .entry)) m first) ⌝ }
 {
     let p = 32 * k;
     let mut j = 0;
@@ -118,7 +125,8 @@ fn list_dropped(
     requires { ⌜ Droppable (now hashes) (now numbers) (now deps) n (now list) ⌝ }
     ensures { λ r. ⌜ DropList (now (hashes .entry)) (now (numbers .entry)) (now (deps .entry)) n key from (now (list .entry)) r (now (list .exit)) ⌝ }
 {
-    let mut r = list_branch(numbers, n, key, from, list);
+    let own = list_branch(numbers, n, key, from, list);
+    let mut r = own;
     let mut c = 0;
     while c < r {
         let k = list[c] as usize;
@@ -129,7 +137,7 @@ fn list_dropped(
 }
 
 // Drops the actor's changes at or after the sequence from a valid queue, and all waiting ones that depend on them.
-pub fn remove_actor_branch_from(
+pub fn drop_branch(
     hashes: &mut [u8],
     numbers: &mut [u64],
     deps: &mut [u8],
@@ -145,4 +153,24 @@ pub fn remove_actor_branch_from(
     let r = list_dropped(hashes, numbers, deps, n, key, from, &mut list);
     let w = close_up(hashes, numbers, deps, n, &list, r);
     count[0] = w as u32;
+}
+
+// Drops the actor's changes at or after the sequence from a queue, and all waiting ones that depend on them, directly or through other waiting ones:
+// 1 if the queue is not valid, or 0.
+pub fn remove_actor_branch_from(
+    hashes: &mut [u8],
+    numbers: &mut [u64],
+    deps: &mut [u8],
+    count: &mut [u32],
+    key: u64,
+    from: u64,
+) -> Removed
+    ensures { λ r. ⌜ Checked (Valid (now (hashes .entry)) (now (numbers .entry)) (now (deps .entry)) (now (count .entry))) (r ≡ Removed.Done) (r ≡ Removed.NotValid) ⌝ }
+    ensures { λ r. ⌜ RemovedTo r (now (hashes .entry)) (now (numbers .entry)) (now (deps .entry)) (now (count .entry)) key from (now (hashes .exit)) (now (numbers .exit)) (now (deps .exit)) (now (count .exit)) ⌝ }
+{
+    if !valid(hashes, numbers, deps, count) {
+        return Removed::NotValid;
+    }
+    drop_branch(hashes, numbers, deps, count, key, from);
+    Removed::Done
 }

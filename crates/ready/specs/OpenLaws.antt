@@ -16,35 +16,34 @@ use Rattle.paper.specs.Queue.{Queue, among, met}
 use Rattle.paper.proofs.Bools.{by-bool, not-both, same-bool}
 use Rattle.paper.proofs.Hashes.{same→eq}
 use Rattle.paper.proofs.Ready.{among-append}
-use Rattle.paper.specs.Lists.{hashAt}
-use Rattle.ready.specs.Tables.{hashesFrom}
+use Rattle.paper.specs.Lists.{hashAt, hashes-from}
 use Rattle.ready.specs.Open.{unmet}
 
-count-hashes : (p : List ℕ → Bool) (ds : List ℕ) (k f : ℕ) → count p (hashesFrom ds (suc k) f) ≡ cond (p (hashAt ds f)) 1 0 + count p (hashesFrom ds k (suc f))
-unfolding count hashesFrom
+count-hashes : (p : List ℕ → Bool) (ds : List ℕ) (k f : ℕ) → count p (hashes-from ds (suc k) f) ≡ cond (p (hashAt ds f)) 1 0 + count p (hashes-from ds k (suc f))
+unfolding count hashes-from
 count-hashes p ds k f = refl
 
-count-none : (p : List ℕ → Bool) (ds : List ℕ) (f : ℕ) → count p (hashesFrom ds 0 f) ≡ 0
-unfolding count hashesFrom
+count-none : (p : List ℕ → Bool) (ds : List ℕ) (f : ℕ) → count p (hashes-from ds 0 f) ≡ 0
+unfolding count hashes-from
 count-none p ds f = refl
 
 -- counting along the m hashes of a table from `first` on, where it stands at j
 module _ (p : List ℕ → Bool) (ds : List ℕ) (first m : ℕ) where
-  pub along-start : 0 + count p (hashesFrom ds (m - 0) (first + 0)) ≡ count p (hashesFrom ds m first)
+  pub along-start : 0 + count p (hashes-from ds (m - 0) (first + 0)) ≡ count p (hashes-from ds m first)
   along-start = rw (sub-zero, add-zero first) (omega arith)
 
-  module _ (j total : ℕ) (inv : total + count p (hashesFrom ds (m - j) (first + j)) ≡ count p (hashesFrom ds m first)) where
-    pub along-next : j < m → (total + cond (p (hashAt ds (first + j))) 1 0) + count p (hashesFrom ds (m - (j + 1)) (first + (j + 1))) ≡ count p (hashesFrom ds m first)
+  module _ (j total : ℕ) (inv : total + count p (hashes-from ds (m - j) (first + j)) ≡ count p (hashes-from ds m first)) where
+    pub along-next : j < m → (total + cond (p (hashAt ds (first + j))) 1 0) + count p (hashes-from ds (m - (j + 1)) (first + (j + 1))) ≡ count p (hashes-from ds m first)
     along-next l =
         let s : m - j ≡ suc (m - (j + 1)) = omega arith in
         let e : suc (first + j) ≡ first + (j + 1) = omega arith in
-        let a : count p (hashesFrom ds (m - j) (first + j)) ≡ cond (p (hashAt ds (first + j))) 1 0 + count p (hashesFrom ds (m - (j + 1)) (first + (j + 1))) = rw (s, ← e) (count-hashes p ds (m - (j + 1)) (first + j)) in
+        let a : count p (hashes-from ds (m - j) (first + j)) ≡ cond (p (hashAt ds (first + j))) 1 0 + count p (hashes-from ds (m - (j + 1)) (first + (j + 1))) = rw (s, ← e) (count-hashes p ds (m - (j + 1)) (first + j)) in
         omega arith
 
-    pub along-end : m ≤ j → total ≡ count p (hashesFrom ds m first)
+    pub along-end : m ≤ j → total ≡ count p (hashes-from ds m first)
     along-end l =
         let z : m - j ≡ 0 = omega arith in
-        let n : count p (hashesFrom ds (m - j) (first + j)) ≡ 0 = rw z (count-none p ds (first + j)) in
+        let n : count p (hashes-from ds (m - j) (first + j)) ≡ 0 = rw z (count-none p ds (first + j)) in
         omega arith
 
 -- ---- counting by two tests

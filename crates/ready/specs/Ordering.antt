@@ -15,8 +15,8 @@ use Rattle.paper.specs.Queue.{Queue, Distinct, among, met, first, freed, orderF
 use Rattle.paper.proofs.Bools.{by-bool, same-bool, pick-ext, mem-getD}
 use Rattle.paper.proofs.Count.{pick-length}
 use Rattle.paper.proofs.Ready.{Listed, listed-start, listed-most, listed-in, listed-new, listed-next, order-turn, order-stop}
-use Rattle.paper.specs.Lists.{hashAt}
-use Rattle.ready.specs.Tables.{hashesFrom, depCount, queueOf, knownIn, unknownIn, DepsHeld}
+use Rattle.paper.specs.Lists.{hashAt, hashes-from}
+use Rattle.ready.specs.Tables.{depCount, queueOf, knownIn, unknownIn, DepsHeld}
 use Rattle.ready.specs.Open.{unmet, unknownOf, hitsOf, lastHit, freedBy, Begun, Passed, Freeable}
 use Rattle.ready.specs.OpenLaws.{met-unmet, unmet-start, unmet-known, unmet-hit}
 
@@ -228,7 +228,7 @@ module _ {gs : List ℕ} {n : ℕ} {hs ns ds : List ℕ} {m c : ℕ} {left : Lis
       record { state = ordering-known (knownIn gs n) (queueOf hs ns ds m) (at .state) (at .more) k; left-length = refl; list-length = refl }
 
   module _ (k : knownIn gs n (hashAt hs (getD list c 0)) ≡ false) where
-    hits-are : (i : ℕ) → hitsOf hs ns ds (getD list c 0) i ≡ count (sameList (hashAt hs (getD list c 0))) (hashesFrom ds (depCount ns i) (32 * i))
+    hits-are : (i : ℕ) → hitsOf hs ns ds (getD list c 0) i ≡ count (sameList (hashAt hs (getD list c 0))) (hashes-from ds (depCount ns i) (32 * i))
     unfolding hitsOf
     hits-are i = refl
 

@@ -5,15 +5,10 @@ use mathlib.Core.List.{List, [], _∷_}
 use mathlib.Core.Bool.{Bool, true, false, not}
 use lib.ListN.{length, getD}
 use Rattle.paper.specs.Queue.{Waiting, Queue, Distinct}
-use Rattle.paper.specs.Lists.{hashAt}
+use Rattle.paper.specs.Lists.{hashAt, hashes-from}
 use Rattle.hash.specs.Hash.{findHash}
 use Rattle.hash.specs.declared.Found.{Found}
 use Rattle.hash.specs.declared.Found.the-variants.{At, Unknown}
-
--- m hashes of a table, from hash k on
-unfoldable pub hashesFrom : List ℕ → ℕ → ℕ → List (List ℕ)
-hashesFrom ds zero k = []
-hashesFrom ds (suc m) k = hashAt ds k ∷ hashesFrom ds m (suc k)
 
 -- how many dependencies record i has
 abbrev pub depCount : List ℕ → ℕ → ℕ
@@ -28,7 +23,7 @@ recordAt hs ns ds i =
       seq = getD ns (5 * i + 1) 0;
       max-op = getD ns (5 * i + 2) 0;
       ops = getD ns (5 * i + 3) 0;
-      deps = hashesFrom ds (depCount ns i) (32 * i);
+      deps = hashes-from ds (depCount ns i) (32 * i);
     }
 
 -- the first n records

@@ -7,8 +7,8 @@ ghost use Prim.Native.Nat.{ℕ, _+_, _*_, _≤_, _<_};
 ghost use lib.Dec.{eqb};
 ghost use lib.ListN.{length, getD, take};
 ghost use Rattle.paper.specs.Lists.{sameList, count, tally};
-ghost use Rattle.paper.specs.Lists.{hashAt};
-ghost use Rattle.ready.specs.Tables.{hashesFrom, knownIn, unknownIn, queueOf, DepsHeld};
+ghost use Rattle.paper.specs.Lists.{hashAt, hashes-from};
+ghost use Rattle.ready.specs.Tables.{knownIn, unknownIn, queueOf, DepsHeld};
 ghost use Rattle.ready.specs.Open.{unknownOf, hitsOf, lastHit, freedBy, Begun, Passed, Freeable};
 ghost use Rattle.ready.specs.Ordering.{Askable, Turnable, Turned, Ordered};
 
@@ -33,7 +33,7 @@ pub fn is_known(graph: &[u8], n: usize, hash: &[u8]) -> bool
 // How many of the m hashes of `deps` from hash `first` on are none of the graph's first n.
 fn count_unknown(graph: &[u8], n: usize, deps: &[u8], first: usize, m: usize) -> u32
     requires { ⌜ (32 * n ≤ length (now graph)) × (32 * (first + m) ≤ length (now deps)) × (m ≤ 32) ⌝ }
-    ensures { λ r. ⌜ r ≡ count (unknownIn (now (graph .entry)) n) (hashesFrom (now (deps .entry)) m first) ⌝ }
+    ensures { λ r. ⌜ r ≡ count (unknownIn (now (graph .entry)) n) (hashes-from (now (deps .entry)) m first) ⌝ }
 {
     let mut total: u32 = 0;
     let mut j = 0;
@@ -48,7 +48,7 @@ fn count_unknown(graph: &[u8], n: usize, deps: &[u8], first: usize, m: usize) ->
 // How many of the m hashes of `deps` from hash `first` on are hash k of `hashes`.
 fn count_same(hashes: &[u8], k: usize, deps: &[u8], first: usize, m: usize) -> u32
     requires { ⌜ (32 * k + 32 ≤ length (now hashes)) × (32 * (first + m) ≤ length (now deps)) × (m ≤ 32) ⌝ }
-    ensures { λ r. ⌜ r ≡ count (sameList (hashAt (now (hashes .entry)) k)) (hashesFrom (now (deps .entry)) m first) ⌝ }
+    ensures { λ r. ⌜ r ≡ count (sameList (hashAt (now (hashes .entry)) k)) (hashes-from (now (deps .entry)) m first) ⌝ }
 {
     let mut total: u32 = 0;
     let mut j = 0;
@@ -76,8 +76,8 @@ pub fn put_if(order: &mut [u32], listed: usize, i: u32, yes: bool) -> usize
 // The same as `count_same`, where it is known that there are at most `due`.
 fn hits(due: u32, hashes: &[u8], k: usize, deps: &[u8], first: usize, m: usize) -> u32
     requires { ⌜ (32 * k + 32 ≤ length (now hashes)) × (32 * (first + m) ≤ length (now deps)) × (m ≤ 32) ⌝ }
-    requires { ⌜ count (sameList (hashAt (now hashes) k)) (hashesFrom (now deps) m first) ≤ due ⌝ }
-    ensures { λ r. ⌜ r ≡ count (sameList (hashAt (now (hashes .entry)) k)) (hashesFrom (now (deps .entry)) m first) ⌝ }
+    requires { ⌜ count (sameList (hashAt (now hashes) k)) (hashes-from (now deps) m first) ≤ due ⌝ }
+    ensures { λ r. ⌜ r ≡ count (sameList (hashAt (now (hashes .entry)) k)) (hashes-from (now (deps .entry)) m first) ⌝ }
 {
     if due == 0 {
         return 0;

@@ -1,19 +1,20 @@
+-- None so far is the hash; the measure is how many are left.
+-- Assumes nothing.
 use Prim.Native.Nat.{_+_, _-_, _≤_}
 use mathlib.Core.Path.{_≡_, sym, _∙_}
 use native.Mathlib.Omega.{arith}
 use borrow.Author.Needs.{needs}
 use Rattle.paper.specs.Lists.{sameList, names}
-use Rattle.paper.specs.Lists.{hashAt}
+use Rattle.paper.specs.Lists.{hashAt, hashes-from}
 use Rattle.hash.specs.Hash.{sameHash}
 use Rattle.hash.specs.HashLaws.{hash-part}
-use Rattle.ready.specs.Tables.{hashesFrom}
 use Rattle.branch.specs.BranchLaws.{names-start, names-hit, names-next, names-end}
 use Rattle.branch.proofs.depends.Statement.{statement}
 use Rattle.branch.proofs.depends.Tie as tie
 
 abbrev Inv-loop : tie.InvT-loop
 Inv-loop hashes k deps first m p j₀ j =
-    (j ≤ m) × (names (hashAt hashes k) (hashesFrom deps (m - j) (first + j)) ≡ names (hashAt hashes k) (hashesFrom deps m first))
+    (j ≤ m) × (names (hashAt hashes k) (hashes-from deps (m - j) (first + j)) ≡ names (hashAt hashes k) (hashes-from deps m first))
 
 abbrev μ-loop : tie.MeasureT-loop
 μ-loop hashes k deps first m p j₀ j = m - j

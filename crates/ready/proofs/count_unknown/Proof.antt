@@ -1,10 +1,12 @@
+-- The total is the count over the hashes so far; the measure is how many are left.
+-- Assumes nothing.
 use Prim.Native.Nat.{_+_, _-_, _≤_}
 use mathlib.Core.Path.{_≡_, ap, _∙_}
 use mathlib.Core.Bool.{Bool, not, cond}
 use Rattle.paper.specs.Lists.{count}
-use Rattle.paper.specs.Lists.{hashAt}
+use Rattle.paper.specs.Lists.{hashAt, hashes-from}
 use Rattle.hash.specs.HashLaws.{hash-part}
-use Rattle.ready.specs.Tables.{hashesFrom, unknownIn}
+use Rattle.ready.specs.Tables.{unknownIn}
 use Rattle.ready.specs.OpenLaws.{along-start, along-next, along-end}
 use borrow.Author.Needs.{needs}
 use native.Mathlib.Omega.{arith}
@@ -13,7 +15,7 @@ use Rattle.ready.proofs.count_unknown.Tie as tie
 
 abbrev Inv-loop : tie.InvT-loop
 Inv-loop graph n deps first m total₀ j₀ total j =
-    (j ≤ m) × (total ≤ j) × (total + count (unknownIn graph n) (hashesFrom deps (m - j) (first + j)) ≡ count (unknownIn graph n) (hashesFrom deps m first))
+    (j ≤ m) × (total ≤ j) × (total + count (unknownIn graph n) (hashes-from deps (m - j) (first + j)) ≡ count (unknownIn graph n) (hashes-from deps m first))
 
 abbrev μ-loop : tie.MeasureT-loop
 μ-loop graph n deps first m total₀ j₀ total j = m - j

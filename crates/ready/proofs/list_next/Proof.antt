@@ -1,3 +1,5 @@
+-- A listed change that is known frees nobody; another one frees by the pass.
+-- Assumes nothing.
 use mathlib.Core.Path.{_≡_, sym, _∙_}
 use native.Mathlib.Omega.{arith}
 use Rattle.hash.specs.HashLaws.{hash-part}

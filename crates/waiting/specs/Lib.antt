@@ -1,0 +1,3 @@
+pub mod Valid
+pub mod ValidLaws
+pub mod Taken
