@@ -65,7 +65,7 @@ long-ending (asking s) n [] h = absurd (omega arith)
 long-ending (asking s) n (b ∷ l) h = refl
 long-ending ended n l h = refl
 
-long-first : (p : Phase) (n : ℕ) (l : List ℕ) (ls : List (List ℕ)) → 2400 < length l → answers p n (l ∷ ls) ≡ longLine p n .said
+pub long-first : (p : Phase) (n : ℕ) (l : List ℕ) (ls : List (List ℕ)) → 2400 < length l → answers p n (l ∷ ls) ≡ longLine p n .said
 unfolding answers lineStep
 long-first p n l [] h = long-ending p n l h
 long-first p n l (k ∷ ls) h =
