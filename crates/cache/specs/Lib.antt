@@ -1,0 +1,5 @@
+pub mod Cache
+pub mod RowLaws
+pub mod CacheLaws
+pub mod LeftLaws
+pub mod Recached
