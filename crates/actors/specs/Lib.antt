@@ -1,2 +1,4 @@
 pub mod Actors
 pub mod ActorLaws
+pub mod Renamed
+pub mod Lives

@@ -39,7 +39,7 @@ pub record Grows (g : Graph) (x : Change) (ds : List ℕ) (g′ : Graph) : Type 
   pub deps : g′ .deps (g .size) ≡ ds
 
 module _ (t : Tables) (x : Change) (v : Valid t) (a : Accepted t x) where
-  extended : Extends (graph t) (graph (placed t x))
+  pub extended : Extends (graph t) (graph (placed t x))
   extended = record {
     longer = let n = new-changes t x v a in omega arith;
     hashes = old-hash t x v a;
@@ -67,7 +67,7 @@ module _ (t : Tables) (x : Change) (v : Valid t) (a : Accepted t x) where
   each : (P : ℕ → Type 0) → ((k : ℕ) → k < changes t → P k) → P (changes t) → (k : ℕ) → k < changes (placed t x) → P k
   each P old new k l = below-suc P (changes t) k (let n = new-changes t x v a in omega arith) (old k) new
 
-  low : (j : ℕ) → mem j (graph (placed t x) .deps (changes t)) ≡ true → j < changes t
+  pub low : (j : ℕ) → mem j (graph (placed t x) .deps (changes t)) ≡ true → j < changes t
   low j m =
       let p = mem-place j (depsOf t x) (rw (new-deps t x v a) at m) in
       let l = deps-long t x a (fits t x v a) in
@@ -76,13 +76,13 @@ module _ (t : Tables) (x : Change) (v : Valid t) (a : Accepted t x) where
       let e : getD (depsOf t x) (p .0) 0 ≡ j = p .2 in
       omega arith
 
-  next : seqAt (placed t x .nodes) (changes t) ≡ suc (tally (λ j. eqb (actorAt (t .nodes) j) (actorAt (placed t x .nodes) (changes t))) (changes t))
+  pub next : seqAt (placed t x .nodes) (changes t) ≡ suc (tally (λ j. eqb (actorAt (t .nodes) j) (actorAt (placed t x .nodes) (changes t))) (changes t))
   next = new-seq t x v a ∙ a .next ∙ ap (λ (b : ℕ). suc (countOf (t .nodes) b (changes t))) (sym (new-actor t x v a))
 
-  old-valid : ValidGraph (graph t)
+  pub old-valid : ValidGraph (graph t)
   old-valid = valid-graph t (v .sound)
 
-  new-valid : ValidGraph (graph (placed t x))
+  pub new-valid : ValidGraph (graph (placed t x))
   new-valid = valid-add (graph t) (graph (placed t x)) old-valid extended (new-changes t x v a) low next
 
   counts : Counts (placed t x .hashes) (placed t x .targets) (placed t x .clocks) (placed t x .counts)

@@ -34,6 +34,26 @@ same-graph g = record { extends = record { longer = omega arith; hashes = λ k l
 pub same-hub : (u : Hub) → SameHub u u
 same-hub u = record { graphs = same-graph (u .graph); actors = refl; change-rooms = refl; edge-rooms = refl }
 
+pub graph-trans : {g g′ g″ : Graph} → SameGraph g g′ → SameGraph g′ g″ → SameGraph g g″
+graph-trans {g} {g′} {g″} e f =
+    let b : (k : ℕ) → k < g .size → k < g′ .size = λ k l. (let n = e .sizes in omega arith) in
+    record {
+      extends =
+          record {
+            longer = let n = e .sizes in let m = f .sizes in omega arith;
+            hashes = λ k l. f .extends .hashes k (b k l) ∙ e .extends .hashes k l;
+            max-ops = λ k l. f .extends .max-ops k (b k l) ∙ e .extends .max-ops k l;
+            op-counts = λ k l. f .extends .op-counts k (b k l) ∙ e .extends .op-counts k l;
+            actors = λ k l. f .extends .actors k (b k l) ∙ e .extends .actors k l;
+            seqs = λ k l. f .extends .seqs k (b k l) ∙ e .extends .seqs k l;
+            depss = λ k l. f .extends .depss k (b k l) ∙ e .extends .depss k l;
+          };
+      sizes = f .sizes ∙ e .sizes;
+    }
+
+pub hub-trans : {u u′ u″ : Hub} → SameHub u u′ → SameHub u′ u″ → SameHub u u″
+hub-trans e f = record { graphs = graph-trans (e .graphs) (f .graphs); actors = f .actors ∙ e .actors; change-rooms = f .change-rooms ∙ e .change-rooms; edge-rooms = f .edge-rooms ∙ e .edge-rooms }
+
 -- ---- adding
 
 module _ (g g′ : Graph) (e : SameGraph g g′) where
