@@ -1,0 +1,19 @@
+-- From an answer to the number and the yes or no.
+-- Assumes nothing.
+use mathlib.Core.Path.{_≡_}
+use mathlib.Core.List.{List}
+use Prim.Native.Nat.{ℕ}
+use borrow.Author.Tests.{ne-eqb}
+use Rattle.clock.specs.declared.Answer.{Answer}
+use Rattle.clock.specs.Told.{Told, told, numberOf, yesOf}
+use Rattle.clocks.specs.Clocks.{Done, done, doneOf, plainOf}
+
+module _ (a : Answer) (e : List ℕ) (t : Told) (n : ℕ) (p : told a e ≡ t) (q : n ≡ numberOf a) where
+  pub done-zero : (y old : ℕ) → n ≡ 0 → y ≡ yesOf a → done n y e ≡ doneOf t old
+  done-zero y old z u = rw (← p, ← q, z, ← u)
+
+  pub done-other : (old : ℕ) → (n ≡ 0 → ⊥) → done n old e ≡ doneOf t old
+  done-other old z = rw (← p, ← q, ne-eqb n 0 z)
+
+  pub done-plain : done n 0 e ≡ plainOf t
+  done-plain = rw (← p, ← q)
