@@ -743,7 +743,7 @@ class Operation:
               f"  said r ts xs {' '.join(wr)} edges′ u c p lt lx long =\n      told-lent E.room E.blank long edges ({R}) ({S}) r {front(False)} {rear(False)} {front(True)} ts′ xs′ {rear(True)} edges′ lt lx p\n      {moved}\n")
         else:
             a(f"  said : (r : ℕ) (ts xs {' '.join(wr)} : List ℕ) → Unpacked ts xs → Cored r ts xs {' '.join(wr)} → length E.blank ≡ E.room → Said r {' '.join(muts)}\n"
-              f"  said r ts xs {' '.join(wr)} u c long =\n      asked-lent E.room E.blank long edges ({R}) ({self.says['refusal']}) ({S}) {front(False)} {rear(False)}\n      {moved}\n")
+              f"  said r ts xs {' '.join(wr)} u c long =\n      asked-lent E.room E.blank long edges ({R}) ({self.says['refusal']}) {front(False)} {rear(False)} ({S})\n      {moved}\n")
         # the callees' preconditions
         et, eq, en = ("α ∷ []", "fullShare", "ε") if changes else ("κ-edges", "q-edges", "γ-edges")
         ub = ("(α : ℕ) " if changes else "") + "(ν ν′ : ℕ) " + ("(ε : GName) " if changes else "") + "(δ δ′ : GName) (l l′ : ℕ)"

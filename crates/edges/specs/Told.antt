@@ -10,7 +10,7 @@ use native.Mathlib.Decide.{decLt}
 use lib.ListN.{length, take, drop, drop-of-length-le}
 use lib.Seq.{take-all}
 use Rattle.tables.specs.Tables.{Tables, tables, edgeRoom}
-use Rattle.tables.specs.Valid.{Valid}
+use Rattle.tables.specs.Valid.{Lengths, Valid}
 use Rattle.edges.specs.Edges.{targetsOf, nextsOf, lent, onto, common, takenTargets, takenNexts, packed}
 use Rattle.edges.specs.EdgesLaws.{targets-long, nexts-long, take-onto, onto-long, packed-targets, packed-nexts, pack-after-unpack}
 use Rattle.edges.specs.declared.Edge.{Edge}
@@ -45,25 +45,36 @@ drop-left (x ∷ l) k = drop-left l k
 
 -- ---- operations that check what is lent
 
--- on valid tables the number is n of them and they become new of them; on others the number is 1 and nothing changes
-pub record Checked (n : Tables → ℕ) (new : Tables → Tables) (t : Tables) (r : ℕ) (t′ : Tables) : Type 0 where
-  pub valid : Valid t → (r ≡ n t) × (t′ ≡ new t)
-  pub not-valid : (Valid t → ⊥) → (r ≡ 1) × (t′ ≡ t)
+-- where P holds of the tables the number is n of them and they become new of them; else the number is 1 and nothing changes
+pub record Checked (P : Tables → Type 0) (n : Tables → ℕ) (new : Tables → Tables) (t : Tables) (r : ℕ) (t′ : Tables) : Type 0 where
+  pub met : P t → (r ≡ n t) × (t′ ≡ new t)
+  pub unmet : (P t → ⊥) → (r ≡ 1) × (t′ ≡ t)
 
--- the same of a question: on valid tables P holds of them, on others the refusal holds
-pub record Answered (P : Tables → Type 0) (refused : Type 0) (t : Tables) : Type 0 where
-  pub valid : Valid t → P t
-  pub not-valid : (Valid t → ⊥) → refused
+-- the same of a question: where P holds of the tables so does Q, and else the refusal holds
+pub record Answered (P Q : Tables → Type 0) (refused : Type 0) (t : Tables) : Type 0 where
+  pub met : P t → Q t
+  pub unmet : (P t → ⊥) → refused
 
--- tables with too many edges are not valid
-too-many : (t : Tables) → 16384 < edgeRoom t → Valid t → ⊥
-too-many t l v = let e = v .sound .lengths .edges-limit in omega arith
+-- P bounds the edges
+abbrev pub Bounding : (Tables → Type 0) → Type 0
+Bounding P = (t : Tables) → P t → edgeRoom t ≤ 16384
 
-pub checked-refused : (n : Tables → ℕ) (new : Tables → Tables) (t : Tables) → 16384 < edgeRoom t → Checked n new t 1 t
-checked-refused n new t l = record { valid = λ v. absurd (too-many t l v); not-valid = λ _. (refl, refl) }
+pub valid-bounding : Bounding Valid
+valid-bounding t v = v .sound .lengths .edges-limit
 
-pub answered-refused : (P : Tables → Type 0) (refused : Type 0) (t : Tables) → 16384 < edgeRoom t → refused → Answered P refused t
-answered-refused P refused t l why = record { valid = λ v. absurd (too-many t l v); not-valid = λ _. why }
+pub lengths-bounding : Bounding Lengths
+lengths-bounding t v = v .edges-limit
+
+module _ (P : Tables → Type 0) (bounding : Bounding P) (t : Tables) (l : 16384 < edgeRoom t) where
+  too-many : P t → ⊥
+  too-many v = let b = bounding t v in omega arith
+
+  -- on too many edges the number 1 is right
+  pub checked-refused : (n : Tables → ℕ) (new : Tables → Tables) (r : ℕ) (t′ : Tables) → (r ≡ 1) × (t′ ≡ t) → Checked P n new t r t′
+  checked-refused n new r t′ o = record { met = λ v. absurd (too-many v); unmet = λ _. o }
+
+  pub answered-refused : (Q : Tables → Type 0) (refused : Type 0) → refused → Answered P Q refused t
+  answered-refused Q refused o = record { met = λ v. absurd (too-many v); unmet = λ _. o }
 
 -- ---- how a core that is told of e edges keeps its promise: it hands the first e of each table on
 
@@ -97,6 +108,19 @@ module _ (R : Tables → ℕ → Tables → Type 0) (e : ℕ) where
       where
         out : {m : ℕ} → e ≤ m → m < e → ⊥
         out a l = omega arith
+
+module _ (Q : Tables → Type 0) (refused : Type 0) (e : ℕ) (t : Tables) where
+  pub asked-none : (length (t .targets) < e) ⊎ (length (t .nexts) < e) → refused → Asked Q refused e t
+  asked-none o why = record { within = λ a b. absurd (⊎-elim (λ (l : length (t .targets) < e). out a l) (λ (l : length (t .nexts) < e). out b l) o); beyond = λ _. why }
+    where
+      out : {m : ℕ} → e ≤ m → m < e → ⊥
+      out a l = omega arith
+
+  pub asked-part : e ≤ length (t .targets) → e ≤ length (t .nexts) → Q (cut e t) → Asked Q refused e t
+  asked-part a b q = record { within = λ _ _. q; beyond = λ o. absurd (⊎-elim (λ (l : length (t .targets) < e). out a l) (λ (l : length (t .nexts) < e). out b l) o) }
+    where
+      out : {m : ℕ} → e ≤ m → m < e → ⊥
+      out a l = omega arith
 
 -- ---- from the core to the operation
 
@@ -165,9 +189,9 @@ module _ (room : ℕ) (blank : List ℕ) (long : length blank ≡ room) (es : Li
   ]
 
   -- a question
-  pub asked-lent : (Q : Tables → Type 0) (refused : Type 0) → ((t : Tables) → room < edgeRoom t → refused → Q t) → (hs ns cs us : List ℕ)
+  pub asked-lent : (Q : Tables → Type 0) (refused : Type 0) (hs ns cs us : List ℕ) → (room < edgeRoom (lent hs ns es cs us) → refused → Q (lent hs ns es cs us))
       → Asked Q refused (length es) (tables hs ns ts xs cs us) → Q (lent hs ns es cs us)
-  asked-lent Q refused refuse hs ns cs us c = elim (decLt room (length es)) [
-    | yes l ↦ refuse (lent hs ns es cs us) (let g = targets-long es in omega arith) (c .beyond (inl (let g = targets-room in omega arith)))
+  asked-lent Q refused hs ns cs us refuse c = elim (decLt room (length es)) [
+    | yes l ↦ refuse (let g = targets-long es in omega arith) (c .beyond (inl (let g = targets-room in omega arith)))
     | no l ↦ subst Q (cut-lent (omega arith) hs ns cs us) (c .within (let g = targets-room in omega arith) (let g = nexts-room in omega arith))
   ]
