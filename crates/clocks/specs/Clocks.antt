@@ -4,8 +4,9 @@ use Prim.Native.Nat.{ℕ}
 use mathlib.Core.List.{List}
 use mathlib.Core.Bool.{cond}
 use lib.Dec.{eqb}
-use Rattle.clock.specs.Told.{Told, numberOf, yesOf, includeTold, mergeTold}
+use Rattle.clock.specs.Told.{Told, numberOf, yesOf, includeTold, mergeTold, isolateTold, coversTold}
 use Rattle.clock.specs.declared.Entry.the-variants.{Sequence}
+use Rattle.clock.specs.declared.Answer.{Answer}
 
 pub record Done : Type 0 where
   pub number : ℕ
@@ -28,3 +29,20 @@ plainOf t = done (numberOf (t .answer)) 0 (t .entries)
 
 abbrev pub mergeDone : List ℕ → ℕ → List ℕ → ℕ → Done
 mergeDone c n b m = plainOf (mergeTold c n b m)
+
+abbrev pub isolateDone : List ℕ → ℕ → ℕ → Done
+isolateDone c n a = plainOf (isolateTold c n a)
+
+-- a question: the number and the yes or no, told in the same way
+pub record Asked : Type 0 where
+  pub number : ℕ
+  pub yes : ℕ
+
+abbrev pub asked : ℕ → ℕ → Asked
+asked r y = record { number = r; yes = y }
+
+abbrev pub askedOf : Answer → ℕ → Asked
+askedOf a old = asked (numberOf a) (cond (eqb (numberOf a) 0) (yesOf a) old)
+
+abbrev pub coversAsked : List ℕ → ℕ → List ℕ → ℕ → ℕ → Asked
+coversAsked c n b m old = askedOf (coversTold c n b m) old
