@@ -41,6 +41,9 @@ abbrev pub outcomeGot : Got → Outcome
 outcomeGot (got.Entry x) = done
 outcomeGot got.NotValid = not-valid
 
+abbrev pub numberGot : Got → ℕ
+numberGot g = number (outcomeGot g)
+
 abbrev pub yesNo : Bool → Answer
 yesNo b = cond b Yes No
 

@@ -8,7 +8,7 @@ ghost use Prim.Native.Nat.{_+_, _<_, _≤_};
 ghost use lib.ListN.{length, getD, set};
 ghost use Rattle.clock.specs.Clock.{takes, included, joined, coversAll, isolated, opCovers, inserted, removed};
 ghost use Rattle.clock.specs.Range.{whichAfter, InAfter, InBefore, visibleAfter, visibleBefore};
-ghost use Rattle.clock.specs.Told.{told, numberOf, yesOf, getTold, includeTold, mergeTold, coversTold, isolateTold, opTold, insertTold, removeTold, afterTold, beforeTold};
+ghost use Rattle.clock.specs.Told.{told, numberOf, numberGot, yesOf, getTold, includeTold, mergeTold, coversTold, isolateTold, opTold, insertTold, removeTold, afterTold, beforeTold};
 
 // A sequence to enter, or none.
 pub enum Entry {
@@ -245,6 +245,16 @@ pub fn yes(a: Answer) -> u32
         Answer::NotValid => 0,
         Answer::NoPlace => 0,
         Answer::NoRoom => 0,
+    }
+}
+
+// The paper's number of an answer that holds an entry.
+pub fn got_number(g: Got) -> u32
+    ensures { λ r. ⌜ r ≡ numberGot g ⌝ }
+{
+    match g {
+        Got::Entry(_) => 0,
+        Got::NotValid => 1,
     }
 }
 
