@@ -8,6 +8,7 @@ pub mod Clock
 pub mod Chain
 pub mod Extend
 pub mod Heads
+pub mod Owners
 pub mod Walk
 pub mod Each
 pub mod Cached

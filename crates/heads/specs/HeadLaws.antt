@@ -1,0 +1,184 @@
+-- Heads by their flags, and the list of them as it is entered from the last node down.
+-- Assumes nothing.
+use mathlib.Core.Path.{_≡_, refl, sym, ap, _∙_, subst}
+use mathlib.Core.Logic.{⊎-elim}
+use mathlib.Core.Bool.{Bool, true, false, not, cond}
+use mathlib.Core.List.{List, [], _∷_, _++_, map}
+use Prim.Native.Nat.{ℕ, zero, suc, _+_, _*_, _-_, _≤_, _<_}
+use native.Mathlib.Omega.{arith}
+use native.Mathlib.Nat.{sub-zero}
+use lib.Dec.{eqb}
+use lib.ListN.{length, drop}
+use borrow.Author.Tests.{eq-eqb, ne-eqb}
+use Rattle.paper.specs.Lists.{pick, tally, sameList, names, ascending, hashAt, hashes-from, enter, every}
+use Rattle.paper.specs.Text.{flat}
+use Rattle.paper.specs.Graph.{wanted, head-nodes, heads}
+use Rattle.paper.proofs.Bools.{by-bool, not-both, to-false, or-cases, tally-ext}
+use Rattle.paper.proofs.Count.{pick-length}
+use Rattle.paper.proofs.Hashes.{same→eq}
+use Rattle.paper.proofs.Ascending.{Once, ascending-once, ascending-grows}
+use Rattle.hash.specs.HashLaws.{hash-length}
+use Rattle.tables.specs.Tables.{Tables, changes, headAt, graph}
+use Rattle.tables.specs.Valid.{Valid, Heads, Distinct}
+use Rattle.answers.specs.Room.{room}
+use Rattle.answers.specs.Picking.{rest-of, rest-all, rest-hit, rest-miss}
+use Rattle.answers.specs.Entering.{Wide, wide-cons, wide-ascending, flat-long, Entering, entering-start, entering-room, entering-next, entering-told, entering-whole}
+use Rattle.answers.specs.Answers.{listed, filled}
+use Rattle.answers.specs.declared.Listed.the-variants.{Done}
+use Rattle.heads.specs.Heads.{head-hashes}
+
+abbrev pub is-head : Tables → ℕ → Bool
+is-head t k = not (wanted (graph t) k)
+
+-- the hashes of the heads from node k on
+abbrev pub from-node : Tables → ℕ → List (List ℕ)
+from-node t k = map (graph t .hash) (rest-of (is-head t) (changes t - k) k)
+
+module _ (t : Tables) (v : Valid t) where
+  -- a flag says what the definition says
+  pub flag-says : (k : ℕ) → k < changes t → eqb (headAt (t .nodes) k) 1 ≡ (is-head t) k
+  unfolding Heads
+  flag-says k l =
+      by-bool (wanted (graph t) k)
+      (λ y. let e = v .sound .heads k l ∙ ap (λ (b : Bool). cond b 0 1) y in rw y (ne-eqb (headAt (t .nodes) k) 1 (λ q. omega arith)))
+      (λ n. let e = v .sound .heads k l ∙ ap (λ (b : Bool). cond b 0 1) n in rw n (eq-eqb (headAt (t .nodes) k) 1 e))
+
+  pub head-flag : (k : ℕ) → k < changes t → headAt (t .nodes) k ≡ 1 → (is-head t) k ≡ true
+  head-flag k l e = sym (flag-says k l) ∙ eq-eqb _ _ e
+
+  pub no-flag : (k : ℕ) → k < changes t → (headAt (t .nodes) k ≡ 1 → ⊥) → (is-head t) k ≡ false
+  no-flag k l e = sym (flag-says k l) ∙ ne-eqb _ _ e
+
+  pub flags-count : tally (λ k. eqb (headAt (t .nodes) k) 1) (changes t) ≡ tally (is-head t) (changes t)
+  flags-count = tally-ext (λ k. eqb (headAt (t .nodes) k) 1) (is-head t) (changes t) flag-says
+
+  pub nodes-long : length (head-nodes (graph t)) ≡ tally (is-head t) (changes t)
+  unfolding head-nodes
+  nodes-long = pick-length (is-head t) (changes t)
+
+  pub nodes-all : (n : ℕ) → n ≡ changes t → pick (is-head t) n ≡ head-nodes (graph t)
+  unfolding head-nodes
+  nodes-all n e = ap (pick (is-head t)) e
+
+  pub from-hit : (k : ℕ) → k < changes t → (is-head t) k ≡ true → (from-node t) k ≡ hashAt (t .hashes) k ∷ (from-node t) (k + 1)
+  from-hit k l e = ap (map (graph t .hash)) (rest-hit (is-head t) (changes t) k l e)
+
+  pub from-miss : (k : ℕ) → k < changes t → (is-head t) k ≡ false → (from-node t) k ≡ (from-node t) (k + 1)
+  from-miss k l e = ap (map (graph t .hash)) (rest-miss (is-head t) (changes t) k l e)
+
+  pub from-end : (k : ℕ) → changes t ≤ k → (from-node t) k ≡ []
+  unfolding rest-of
+  from-end k l = let z : changes t - k ≡ 0 = omega arith in rw z
+
+  pub from-all : ascending ((from-node t) 0) ≡ heads (graph t)
+  unfolding heads head-nodes
+  from-all = rw (sub-zero, rest-all (is-head t) (changes t))
+
+  wide-rest : (left k : ℕ) → k + left ≤ changes t → Wide (map (graph t .hash) (rest-of (is-head t) left k))
+  unfolding rest-of every
+  wide-rest zero k l = refl
+  wide-rest (suc left) k l =
+      let r = wide-rest left (suc k) (omega arith) in
+      let h = room t v .hashes-in in
+      by-bool ((is-head t) k) (λ y. rw y (wide-cons (hashAt (t .hashes) k) (map (graph t .hash) (rest-of (is-head t) left (suc k))) (hash-length (t .hashes) k (omega arith)) r)) (λ n. rw n r)
+
+  pub from-wide : (k : ℕ) → k ≤ changes t → Wide ((from-node t) k)
+  from-wide k l = wide-rest (changes t - k) k (omega arith)
+
+  -- a hash that is named is one of theirs
+  named-rest : (h : List ℕ) (left k : ℕ) → names h (map (graph t .hash) (rest-of (is-head t) left k)) ≡ true → (j : ℕ) × (k ≤ j) × (j < k + left) × (hashAt (t .hashes) j ≡ h)
+  unfolding rest-of names
+  named-rest h zero k e = not-both e refl
+  named-rest h (suc left) k e =
+      by-bool ((is-head t) k)
+      (λ y.
+      ⊎-elim (λ s. (k, omega arith, omega arith, same→eq (hashAt (t .hashes) k) h s)) (λ m. further (named-rest h left (suc k) m))
+      (or-cases (sameList (hashAt (t .hashes) k) h) (names h (map (graph t .hash) (rest-of (is-head t) left (suc k)))) (rw y at e)))
+      (λ n. further (named-rest h left (suc k) (rw n at e)))
+    where
+      further : (j : ℕ) × (suc k ≤ j) × (j < suc k + left) × (hashAt (t .hashes) j ≡ h) → (j : ℕ) × (k ≤ j) × (j < k + suc left) × (hashAt (t .hashes) j ≡ h)
+      further r = (r .0, omega (arith, r .1), omega (arith, r .2), r .3)
+
+  -- distinct hashes: none stands twice
+  once-rest : (left k : ℕ) → k + left ≤ changes t → Once (map (graph t .hash) (rest-of (is-head t) left k))
+  unfolding rest-of Once Distinct
+  once-rest zero k l = tt
+  once-rest (suc left) k l =
+      let r = once-rest left (suc k) (omega arith) in
+      by-bool ((is-head t) k)
+      (λ y. rw y (to-false (names (hashAt (t .hashes) k) (map (graph t .hash) (rest-of (is-head t) left (suc k)))) (λ m. let w = named-rest (hashAt (t .hashes) k) left (suc k) m in v .sound .distinct (w .0) (omega (arith, w .2)) k (omega (arith, w .1)) (sym (w .3))), r))
+      (λ n. rw n r)
+
+  map-long : (f : ℕ → List ℕ) (l : List ℕ) → length (map f l) ≡ length l
+  map-long f [] = refl
+  map-long f (x ∷ l) = ap suc (map-long f l)
+
+  -- as many heads as head nodes
+  pub heads-long : length (heads (graph t)) ≡ tally (is-head t) (changes t)
+  heads-long =
+      sym (ap length from-all)
+      ∙ ascending-once ((from-node t) 0) (once-rest (changes t - 0) 0 (omega arith))
+      ∙ map-long (graph t .hash) (rest-of (is-head t) (changes t - 0) 0)
+      ∙ ap (λ (n : ℕ). length (rest-of (is-head t) n 0)) (sub-zero (changes t))
+      ∙ ap length (sym (rest-all (is-head t) (changes t)))
+      ∙ pick-length (is-head t) (changes t)
+
+  -- those entered so far are no more than all
+  one-fewer : (k : ℕ) → k < changes t → length (ascending ((from-node t) (k + 1))) ≤ length (ascending ((from-node t) k))
+  one-fewer k l =
+      by-bool ((is-head t) k)
+      (λ y. let g = ascending-grows (hashAt (t .hashes) k) ((from-node t) (k + 1)) in let e = ap (λ (s : List (List ℕ)). length (ascending s)) (from-hit k l y) in omega arith)
+      (λ n. let e = ap (λ (s : List (List ℕ)). length (ascending s)) (from-miss k l n) in omega arith)
+
+  pub fewer : (k : ℕ) → k ≤ changes t → length (ascending ((from-node t) k)) ≤ length (heads (graph t))
+  fewer zero l = let e = ap length from-all in omega arith
+  fewer (suc k) l = let r = fewer k (omega arith) in let s = one-fewer k (omega arith) in let e : k + 1 ≡ suc k = omega arith in let q = ap (λ (i : ℕ). length (ascending ((from-node t) i))) e in omega arith
+
+  -- ---- entering them from the last node down: the scan goes from k to j
+
+  module _ {out₀ out : List ℕ} {c k : ℕ} (i : Entering (from-node t k) out₀ out c) (fits : 32 * length (heads (graph t)) ≤ length out₀) (j : ℕ) (e : k ≡ j + 1) (l : k ≤ changes t) where
+    step : Entering (from-node t (j + 1)) out₀ out c
+    step = subst (λ (n : ℕ). Entering (from-node t n) out₀ out c) e i
+
+    module _ (y : is-head t j ≡ true) where
+      enough : 32 * length (ascending (hashAt (t .hashes) j ∷ from-node t (j + 1))) ≤ length out₀
+      enough = let f = fewer j (omega arith) in let q = ap (λ (s : List (List ℕ)). length (ascending s)) (from-hit j (omega arith) y) in omega arith
+
+      pub heads-room : 32 * length (enter (hashAt (t .hashes) j) (hashes-from out c 0)) ≤ length out
+      heads-room = entering-room step (from-wide (j + 1) (omega arith)) (hashAt (t .hashes) j) enough
+
+      pub heads-next : (out′ : List ℕ) (r : ℕ) → r ≡ length (enter (hashAt (t .hashes) j) (hashes-from out c 0))
+          → out′ ≡ flat (enter (hashAt (t .hashes) j) (hashes-from out c 0)) ++ drop (32 * length (enter (hashAt (t .hashes) j) (hashes-from out c 0))) out → Entering (from-node t j) out₀ out′ r
+      heads-next out′ r n s =
+          let h = room t v .hashes-in in
+          subst (λ (x : List (List ℕ)). Entering x out₀ out′ r) (sym (from-hit j (omega arith) y))
+          (entering-next step (from-wide (j + 1) (omega arith)) (hashAt (t .hashes) j) enough (hash-length (t .hashes) j (omega arith)) out′ r n s)
+
+    pub heads-skip : is-head t j ≡ false → Entering (from-node t j) out₀ out c
+    heads-skip n = subst (λ (x : List (List ℕ)). Entering x out₀ out c) (sym (from-miss j (omega arith) n)) step
+
+  pub heads-start : (out : List ℕ) → Entering (from-node t (changes t)) out out 0
+  heads-start out = subst (λ (x : List (List ℕ)). Entering x out out 0) (sym (from-end (changes t) (omega arith))) (entering-start out)
+
+  pub hashes-long : length (head-hashes (graph t)) ≡ 32 * tally (is-head t) (changes t)
+  unfolding head-hashes
+  hashes-long =
+      let w : Wide (heads (graph t)) = subst Wide from-all (wide-ascending (from-node t 0) (from-wide 0 (omega arith))) in
+      let f = flat-long (heads (graph t)) w in
+      let n = heads-long in
+      omega arith
+
+  module _ {out₀ out : List ℕ} {c k : ℕ} (i : Entering (from-node t k) out₀ out c) (fits : 32 * length (heads (graph t)) ≤ length out₀) (e : k ≡ 0) where
+    last : Entering (from-node t 0) out₀ out c
+    last = subst (λ (n : ℕ). Entering (from-node t n) out₀ out c) e i
+
+    all-fit : 32 * length (ascending (from-node t 0)) ≤ length out₀
+    all-fit = let q = ap length from-all in omega arith
+
+    pub heads-told : Done (32 * c) ≡ listed (head-hashes (graph t)) (length out₀)
+    unfolding head-hashes
+    heads-told = entering-told last (from-wide 0 (omega arith)) all-fit ∙ ap (λ (x : List (List ℕ)). listed (flat x) (length out₀)) from-all
+
+    pub heads-whole : out ≡ filled (head-hashes (graph t)) out₀
+    unfolding head-hashes
+    heads-whole = entering-whole last (from-wide 0 (omega arith)) all-fit ∙ ap (λ (x : List (List ℕ)). filled (flat x) out₀) from-all
