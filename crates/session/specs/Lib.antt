@@ -1,3 +1,4 @@
 pub mod Begin
 pub mod LineLaws
 pub mod BeginLaws
+pub mod SameLaws
