@@ -1,0 +1,90 @@
+// One line of a session that asks: what it does to the tables, and its answer line.
+ghost use mathlib.Core.Path.{_≡_};
+ghost use mathlib.Core.List.{List, [], _∷_};
+ghost use Prim.Native.Nat.{_≤_};
+ghost use lib.ListN.{length};
+ghost use Rattle.paper.specs.Adding.{judged};
+ghost use Rattle.paper.specs.Command.{addWord};
+ghost use Rattle.paper.specs.Session.{answerLine, verdictText};
+ghost use Rattle.tables.specs.Tables.{tables};
+ghost use Rattle.tables.specs.Valid.{Valid};
+ghost use Rattle.judge.specs.Judge.{change, verdict};
+ghost use Rattle.judge.specs.Hub.{hub};
+ghost use Rattle.graph.specs.Place.{added};
+ghost use Rattle.reply.specs.Said.{Said};
+ghost use Rattle.step.specs.Added.{missingOf, Named, judgedText};
+use hash::Missing;
+use judge::Judged;
+use print::Put;
+
+// The place of the dependency that is unknown, where that is what adding came to.
+fn unknown_of(j: Judged) -> Missing
+    ensures { λ r. ⌜ r ≡ missingOf j ⌝ }
+{
+    match j {
+        Judged::Unknown(i) => Missing::First(i),
+        Judged::Done => Missing::Nothing,
+        Judged::Malformed => Missing::Nothing,
+        Judged::Known => Missing::Nothing,
+        Judged::NoActor => Missing::Nothing,
+        Judged::WrongSequence => Missing::Nothing,
+        Judged::BadOps => Missing::Nothing,
+        Judged::TooManyDeps => Missing::Nothing,
+        Judged::NoNodeRoom => Missing::Nothing,
+        Judged::NoEdgeRoom => Missing::Nothing,
+    }
+}
+
+// The answer line of what adding came to.
+fn put_judged(out: &mut [u8], at: usize, j: Judged, deps: &[u8]) -> Put
+    requires { ⌜ (at ≤ length (now out)) × Named j (now deps) ⌝ }
+    ensures { λ r. ⌜ Said (answerLine addWord (judgedText j (now (deps .entry)))) at r (now (out .entry)) (now (out .exit)) ⌝ }
+{
+    match unknown_of(j) {
+        Missing::First(i) => {
+            let p = 32 * i;
+            let e = p + 32;
+            reply::put_unknown(out, at, &deps[p..e])
+        }
+        Missing::Nothing => reply::put_add(out, at, judge::number(j) as u64),
+    }
+}
+
+// An `add` line: the change is added where it is accepted, and its number answered.
+pub fn add_line(
+    hashes: &mut [u8],
+    nodes: &mut [u32],
+    targets: &mut [u32],
+    nexts: &mut [u32],
+    clocks: &mut [u32],
+    counts: &mut [u32],
+    hash: &[u8],
+    actor: u64,
+    seq: u64,
+    max: u64,
+    ops: u64,
+    deps: &[u8],
+    out: &mut [u8],
+    at: usize,
+) -> Put
+    requires { ⌜ Valid (tables (now hashes) (now nodes) (now targets) (now nexts) (now clocks) (now counts)) ⌝ }
+    requires { ⌜ at ≤ length (now out) ⌝ }
+    ensures { λ r. ⌜ Said (answerLine addWord (verdictText (change (now (hash .entry)) actor seq max ops (now (deps .entry))) (judged (hub (tables (now (hashes .entry)) (now (nodes .entry)) (now (targets .entry)) (now (nexts .entry)) (now (clocks .entry)) (now (counts .entry)))) (change (now (hash .entry)) actor seq max ops (now (deps .entry)))))) at r (now (out .entry)) (now (out .exit)) ⌝ }
+    ensures { λ _. ⌜ tables (now (hashes .exit)) (now (nodes .exit)) (now (targets .exit)) (now (nexts .exit)) (now (clocks .exit)) (now (counts .exit)) ≡ added (tables (now (hashes .entry)) (now (nodes .entry)) (now (targets .entry)) (now (nexts .entry)) (now (clocks .entry)) (now (counts .entry))) (change (now (hash .entry)) actor seq max ops (now (deps .entry))) ⌝ }
+{
+    let j = graph::add(
+        hashes,
+        nodes,
+        targets,
+        nexts,
+        clocks,
+        counts,
+        hash,
+        actor,
+        seq,
+        max,
+        ops,
+        deps,
+    );
+    put_judged(out, at, j, deps)
+}
