@@ -1,2 +1,4 @@
 pub mod Added
 pub mod AddedLaws
+pub mod Step
+pub mod StepLaws
