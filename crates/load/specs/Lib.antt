@@ -1,0 +1,5 @@
+pub mod Load
+pub mod LoadLaws
+pub mod DoneLaws
+pub mod Accepted
+pub mod Loaded
