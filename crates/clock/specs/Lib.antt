@@ -1,7 +1,5 @@
 pub mod Clock
 pub mod Range
-pub mod Told
-pub mod ToldLaws
 pub mod ClockLaws
 pub mod Places
 pub mod Steps

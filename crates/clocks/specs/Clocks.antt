@@ -4,9 +4,9 @@ use Prim.Native.Nat.{ℕ}
 use mathlib.Core.List.{List}
 use mathlib.Core.Bool.{cond}
 use lib.Dec.{eqb}
-use Rattle.clock.specs.Told.{Told, numberOf, yesOf, includeTold, mergeTold, isolateTold, coversTold}
+use Rattle.hub_clocks.specs.Told.{Told, numberOf, yesOf, includeTold, mergeTold, isolateTold, coversTold}
 use Rattle.clock.specs.declared.Entry.the-variants.{Sequence}
-use Rattle.clock.specs.declared.Answer.{Answer}
+use Rattle.hub_clocks.specs.declared.Answer.{Answer}
 
 pub record Done : Type 0 where
   pub number : ℕ

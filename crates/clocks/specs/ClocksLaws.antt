@@ -4,8 +4,8 @@ use mathlib.Core.Path.{_≡_}
 use mathlib.Core.List.{List}
 use Prim.Native.Nat.{ℕ}
 use borrow.Author.Tests.{ne-eqb}
-use Rattle.clock.specs.declared.Answer.{Answer}
-use Rattle.clock.specs.Told.{Told, told, numberOf, yesOf}
+use Rattle.hub_clocks.specs.declared.Answer.{Answer}
+use Rattle.hub_clocks.specs.Told.{Told, told, numberOf, yesOf}
 use Rattle.clocks.specs.Clocks.{Done, done, doneOf, plainOf, Asked, asked, askedOf}
 
 module _ (a : Answer) (e : List ℕ) (t : Told) (n : ℕ) (p : told a e ≡ t) (q : n ≡ numberOf a) where

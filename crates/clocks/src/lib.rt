@@ -2,8 +2,8 @@
 // the core decides everything, the number included. In C a `&mut Clock` is a `Clock *`, and a `&mut u32` a `uint32_t *`.
 ghost use mathlib.Core.Path.{_≡_};
 ghost use Rattle.clocks.specs.Clocks.{done, asked, includeDone, mergeDone, isolateDone, coversAsked};
-use clock::Answer;
 use clock::Entry;
+use hub_clocks::Answer;
 
 // The first `count` entries are in use. A count above 64 is no valid clock, and answers 1.
 #[repr(C)]
@@ -22,10 +22,10 @@ fn wide(x: u32) -> usize
 pub fn include_in(entries: &mut [u32], count: u32, place: usize, seq: u32, rose: &mut u32) -> u32
     ensures { λ r. ⌜ done r (now (rose .exit)) (now (entries .exit)) ≡ includeDone (now (entries .entry)) count place seq (now (rose .entry)) ⌝ }
 {
-    let a = clock::try_include(entries, wide(count), place, Entry::Sequence(seq));
-    let n = clock::number(a);
+    let a = hub_clocks::try_include(entries, wide(count), place, Entry::Sequence(seq));
+    let n = hub_clocks::number(a);
     if n == 0 {
-        *rose = clock::yes(a);
+        *rose = hub_clocks::yes(a);
     }
     n
 }
@@ -34,24 +34,24 @@ pub fn include_in(entries: &mut [u32], count: u32, place: usize, seq: u32, rose:
 pub fn merge_in(a: &mut [u32], n: u32, b: &[u32], m: u32) -> u32
     ensures { λ r. ⌜ done r 0 (now (a .exit)) ≡ mergeDone (now (a .entry)) n (now (b .entry)) m ⌝ }
 {
-    clock::number(clock::try_merge(a, wide(n), b, wide(m)))
+    hub_clocks::number(hub_clocks::try_merge(a, wide(n), b, wide(m)))
 }
 
 // The entry at a place becomes the largest number. The number.
 pub fn isolate_in(entries: &mut [u32], count: u32, place: usize) -> u32
     ensures { λ r. ⌜ done r 0 (now (entries .exit)) ≡ isolateDone (now (entries .entry)) count place ⌝ }
 {
-    clock::number(clock::try_isolate(entries, wide(count), place))
+    hub_clocks::number(hub_clocks::try_isolate(entries, wide(count), place))
 }
 
 // Is no entry of the second clock larger? The number; where it is 0, `covered` becomes 1 for yes and 0 for no.
 pub fn covers_in(a: &[u32], n: u32, b: &[u32], m: u32, covered: &mut u32) -> u32
     ensures { λ r. ⌜ asked r (now (covered .exit)) ≡ coversAsked (now (a .entry)) n (now (b .entry)) m (now (covered .entry)) ⌝ }
 {
-    let r = clock::try_covers(a, wide(n), b, wide(m));
-    let k = clock::number(r);
+    let r = hub_clocks::try_covers(a, wide(n), b, wide(m));
+    let k = hub_clocks::number(r);
     if k == 0 {
-        *covered = clock::yes(r);
+        *covered = hub_clocks::yes(r);
     }
     k
 }
