@@ -1,4 +1,4 @@
--- The tables after a change is placed: what each place of them holds.
+-- The tables after a change is stored: what each place of them holds.
 -- Assumes nothing.
 use mathlib.Core.Path.{_≡_, refl, sym, ap, ap₂, subst, _∙_}
 use mathlib.Core.Bool.{Bool, true, false, cond, _||_}
@@ -25,7 +25,7 @@ use Rattle.tables.specs.DepsLaws.{node-along, along-same, next-inside}
 use Rattle.paper.specs.Adding.{Change}
 use Rattle.judge.specs.Judge.{depCount}
 use Rattle.judge.specs.JudgeLaws.{Accepted}
-use Rattle.graph.specs.Place.{nextsFrom, firstEdge, unheaded, withNode, depsOf, placed}
+use Rattle.graph.specs.Place.{nextsFrom, firstEdge, unheaded, withNode, depsOf, stored}
 use Rattle.graph.specs.PlaceLaws.{Fits, fits, nexts-long, nexts-more, nexts-last, unheaded-long, unheaded-other, unheaded-at, deps-long, new-targets, new-targets-low}
 
 -- ---- a node's record that is written
@@ -89,16 +89,16 @@ module _ (t : Tables) (x : Change) (v : Valid t) (a : Accepted t x) where
   fit = fits t x v a
 
   -- counts
-  pub new-changes : changes (placed t x) ≡ suc (changes t)
+  pub new-changes : changes (stored t x) ≡ suc (changes t)
   new-changes =
       getD-set-other (set (t .counts) 0 (changes t + 1)) 1 0 (edges t + depCount x) 0 (λ q. omega arith)
       ∙ getD-set-same (t .counts) 0 (changes t + 1) 0 (let c = fit .counts-three in omega arith)
       ∙ add-one (changes t)
 
-  pub new-edges : edges (placed t x) ≡ edges t + depCount x
+  pub new-edges : edges (stored t x) ≡ edges t + depCount x
   new-edges = getD-set-same (set (t .counts) 0 (changes t + 1)) 1 (edges t + depCount x) 0 (simp length-set (let c = fit .counts-three in omega arith))
 
-  pub new-actors : actors (placed t x) ≡ actors t
+  pub new-actors : actors (stored t x) ≡ actors t
   new-actors =
       getD-set-other (set (t .counts) 0 (changes t + 1)) 1 2 (edges t + depCount x) 0 (λ q. omega arith)
       ∙ getD-set-other (t .counts) 0 2 (changes t + 1) 0 (λ q. omega arith)
@@ -119,28 +119,28 @@ module _ (t : Tables) (x : Change) (v : Valid t) (a : Accepted t x) where
   flags-room : 6 * changes t + 6 ≤ length (unheaded (depsOf t x) (t .nodes))
   flags-room = let z = unheaded-long (depsOf t x) (t .nodes) in let f = fit .node-fits in omega arith
 
-  pub hashes-long : length (placed t x .hashes) ≡ length (t .hashes)
+  pub hashes-long : length (stored t x .hashes) ≡ length (t .hashes)
   hashes-long = paste-long (t .hashes) (32 * changes t) (x .hash) (length (x .hash)) hash-room (omega arith)
 
-  nodes-long : length (placed t x .nodes) ≡ length (t .nodes)
+  nodes-long : length (stored t x .nodes) ≡ length (t .nodes)
   nodes-long =
       with-long (unheaded (depsOf t x) (t .nodes)) (changes t) (x .actor) (x .seq) (x .max-op) (x .ops) (firstEdge (depCount x) (edges t)) flags-room
       ∙ unheaded-long (depsOf t x) (t .nodes)
 
-  pub targets-long : length (placed t x .targets) ≡ length (t .targets)
+  pub targets-long : length (stored t x .targets) ≡ length (t .targets)
   targets-long = paste-long (t .targets) (edges t) (depsOf t x) (depCount x) (fit .targets-fit) deps-enough
 
-  nexts-same-long : length (placed t x .nexts) ≡ length (t .nexts)
+  nexts-same-long : length (stored t x .nexts) ≡ length (t .nexts)
   nexts-same-long = paste-long (t .nexts) (edges t) (nextsFrom (depCount x) (edges t)) (depCount x) (fit .nexts-fit) nexts-enough
 
-  clocks-long : length (placed t x .clocks) ≡ length (t .clocks)
+  clocks-long : length (stored t x .clocks) ≡ length (t .clocks)
   clocks-long = paste-long (t .clocks) (changes t * actorRoom t) (replicate (actorRoom t) 0) (actorRoom t) (fit .row-fits) zeros-enough
 
-  pub new-width : actorRoom (placed t x) ≡ actorRoom t
+  pub new-width : actorRoom (stored t x) ≡ actorRoom t
   unfolding widthOf
   new-width = ap₂ (λ (c h : ℕ). c / (h / 32)) clocks-long hashes-long
 
-  pub new-lengths : Lengths (placed t x)
+  pub new-lengths : Lengths (stored t x)
   new-lengths =
       let l = v .sound .lengths in
       let h = hashes-long in
@@ -160,70 +160,70 @@ module _ (t : Tables) (x : Change) (v : Valid t) (a : Accepted t x) where
       }
 
   -- hashes
-  pub old-hash : (k : ℕ) → k < changes t → hashAt (placed t x .hashes) k ≡ hashAt (t .hashes) k
+  pub old-hash : (k : ℕ) → k < changes t → hashAt (stored t x .hashes) k ≡ hashAt (t .hashes) k
   unfolding hashAt
   old-hash k l = part-low (t .hashes) (32 * changes t) (x .hash) (length (x .hash)) hash-room (omega arith) (32 * k) 32 (omega arith)
 
-  pub new-hash : hashAt (placed t x .hashes) (changes t) ≡ x .hash
+  pub new-hash : hashAt (stored t x .hashes) (changes t) ≡ x .hash
   unfolding hashAt
   new-hash =
-      ap (λ (m : ℕ). take m (drop (32 * changes t) (placed t x .hashes))) (sym (a .hash-long))
+      ap (λ (m : ℕ). take m (drop (32 * changes t) (stored t x .hashes))) (sym (a .hash-long))
       ∙ part-in (t .hashes) (32 * changes t) (x .hash) (length (x .hash)) hash-room (omega arith) refl
 
   -- records
-  pub old-number : (k : ℕ) → k < changes t → (j : ℕ) → j < 5 → getD (placed t x .nodes) (6 * k + j) 0 ≡ getD (t .nodes) (6 * k + j) 0
+  pub old-number : (k : ℕ) → k < changes t → (j : ℕ) → j < 5 → getD (stored t x .nodes) (6 * k + j) 0 ≡ getD (t .nodes) (6 * k + j) 0
   old-number k l j h =
       with-low (unheaded (depsOf t x) (t .nodes)) (changes t) (x .actor) (x .seq) (x .max-op) (x .ops) (firstEdge (depCount x) (edges t)) flags-room (6 * k + j) (omega arith)
       ∙ unheaded-other (depsOf t x) (t .nodes) (6 * k + j) (λ i q. omega arith)
 
-  pub old-actor : (k : ℕ) → k < changes t → actorAt (placed t x .nodes) k ≡ actorAt (t .nodes) k
+  pub old-actor : (k : ℕ) → k < changes t → actorAt (stored t x .nodes) k ≡ actorAt (t .nodes) k
   old-actor k l =
       with-low (unheaded (depsOf t x) (t .nodes)) (changes t) (x .actor) (x .seq) (x .max-op) (x .ops) (firstEdge (depCount x) (edges t)) flags-room (6 * k) (omega arith)
       ∙ unheaded-other (depsOf t x) (t .nodes) (6 * k) (λ i q. omega arith)
 
-  pub old-head : (k : ℕ) → k < changes t → headAt (placed t x .nodes) k ≡ cond (mem k (depsOf t x)) 0 (headAt (t .nodes) k)
+  pub old-head : (k : ℕ) → k < changes t → headAt (stored t x .nodes) k ≡ cond (mem k (depsOf t x)) 0 (headAt (t .nodes) k)
   old-head k l =
       with-low (unheaded (depsOf t x) (t .nodes)) (changes t) (x .actor) (x .seq) (x .max-op) (x .ops) (firstEdge (depCount x) (edges t)) flags-room (6 * k + 5) (omega arith)
       ∙ unheaded-at (depsOf t x) (t .nodes) k (let f = fit .node-fits in omega arith)
 
-  pub new-actor : actorAt (placed t x .nodes) (changes t) ≡ x .actor
+  pub new-actor : actorAt (stored t x .nodes) (changes t) ≡ x .actor
   new-actor = with-actor (unheaded (depsOf t x) (t .nodes)) (changes t) (x .actor) (x .seq) (x .max-op) (x .ops) (firstEdge (depCount x) (edges t)) flags-room
 
-  pub new-seq : seqAt (placed t x .nodes) (changes t) ≡ x .seq
+  pub new-seq : seqAt (stored t x .nodes) (changes t) ≡ x .seq
   new-seq = with-seq (unheaded (depsOf t x) (t .nodes)) (changes t) (x .actor) (x .seq) (x .max-op) (x .ops) (firstEdge (depCount x) (edges t)) flags-room
 
-  pub new-max : maxOpAt (placed t x .nodes) (changes t) ≡ x .max-op
+  pub new-max : maxOpAt (stored t x .nodes) (changes t) ≡ x .max-op
   new-max = with-max (unheaded (depsOf t x) (t .nodes)) (changes t) (x .actor) (x .seq) (x .max-op) (x .ops) (firstEdge (depCount x) (edges t)) flags-room
 
-  pub new-ops : opsAt (placed t x .nodes) (changes t) ≡ x .ops
+  pub new-ops : opsAt (stored t x .nodes) (changes t) ≡ x .ops
   new-ops = with-ops (unheaded (depsOf t x) (t .nodes)) (changes t) (x .actor) (x .seq) (x .max-op) (x .ops) (firstEdge (depCount x) (edges t)) flags-room
 
-  new-first : firstAt (placed t x .nodes) (changes t) ≡ firstEdge (depCount x) (edges t)
+  new-first : firstAt (stored t x .nodes) (changes t) ≡ firstEdge (depCount x) (edges t)
   new-first = with-first (unheaded (depsOf t x) (t .nodes)) (changes t) (x .actor) (x .seq) (x .max-op) (x .ops) (firstEdge (depCount x) (edges t)) flags-room
 
-  pub new-head : headAt (placed t x .nodes) (changes t) ≡ 1
+  pub new-head : headAt (stored t x .nodes) (changes t) ≡ 1
   new-head = with-head (unheaded (depsOf t x) (t .nodes)) (changes t) (x .actor) (x .seq) (x .max-op) (x .ops) (firstEdge (depCount x) (edges t)) flags-room
 
   -- edges
-  old-target : (i : ℕ) → i < edges t → getD (placed t x .targets) i 0 ≡ getD (t .targets) i 0
+  old-target : (i : ℕ) → i < edges t → getD (stored t x .targets) i 0 ≡ getD (t .targets) i 0
   old-target = paste-low (t .targets) (edges t) (depsOf t x) (depCount x) (fit .targets-fit) deps-enough
 
-  old-next : (i : ℕ) → i < edges t → getD (placed t x .nexts) i 0 ≡ getD (t .nexts) i 0
+  old-next : (i : ℕ) → i < edges t → getD (stored t x .nexts) i 0 ≡ getD (t .nexts) i 0
   old-next = paste-low (t .nexts) (edges t) (nextsFrom (depCount x) (edges t)) (depCount x) (fit .nexts-fit) nexts-enough
 
-  new-next : (j : ℕ) → j < depCount x → getD (placed t x .nexts) (edges t + j) 0 ≡ getD (nextsFrom (depCount x) (edges t)) j 0
+  new-next : (j : ℕ) → j < depCount x → getD (stored t x .nexts) (edges t + j) 0 ≡ getD (nextsFrom (depCount x) (edges t)) j 0
   new-next = paste-in (t .nexts) (edges t) (nextsFrom (depCount x) (edges t)) (depCount x) (fit .nexts-fit) nexts-enough
 
   -- the new node's list, from its edge j on
-  new-run : (left j : ℕ) → j + suc left ≡ depCount x → Run (placed t x .targets) (placed t x .nexts) (changes t) (edges t + j) (edges t + depCount x)
+  new-run : (left j : ℕ) → j + suc left ≡ depCount x → Run (stored t x .targets) (stored t x .nexts) (changes t) (edges t + j) (edges t + depCount x)
   new-run zero j e =
       last {c = edges t + j} {d = edges t + depCount x} (new-targets-low t x a fit (edges t + j) (omega arith) (omega arith)) (new-next j (omega arith) ∙ nexts-last (depCount x) (edges t) j (omega arith)) (omega arith)
   new-run (suc left) j e =
       let s : edges t + (j + 1) ≡ edges t + j + 1 = omega arith in
       more {c = edges t + j} (new-targets-low t x a fit (edges t + j) (omega arith) (omega arith)) (new-next j (omega arith) ∙ nexts-more (depCount x) (edges t) j (omega arith))
-      (subst (λ (c : ℕ). Run (placed t x .targets) (placed t x .nexts) (changes t) c (edges t + depCount x)) s (new-run left (j + 1) (omega arith)))
+      (subst (λ (c : ℕ). Run (stored t x .targets) (stored t x .nexts) (changes t) c (edges t + depCount x)) s (new-run left (j + 1) (omega arith)))
 
-  new-list : NodeLaid (placed t x .nodes) (placed t x .targets) (placed t x .nexts) (changes t) (edges t) (edges t + depCount x)
+  new-list : NodeLaid (stored t x .nodes) (stored t x .targets) (stored t x .nexts) (changes t) (edges t) (edges t + depCount x)
   new-list =
       by-bool (eqb (depCount x) 0)
       (λ z. let e = eqb-true (depCount x) 0 z in no-list (new-first ∙ ap (λ (b : Bool). cond b 0 (edges t + 1)) z) (omega arith))
@@ -233,45 +233,45 @@ module _ (t : Tables) (x : Change) (v : Valid t) (a : Accepted t x) where
       let s : edges t + 0 ≡ edges t = omega arith in
       let w = a .few in
       a-list (new-first ∙ ap (λ (b : Bool). cond b 0 (edges t + 1)) z)
-      (subst (λ (c : ℕ). Run (placed t x .targets) (placed t x .nexts) (changes t) c (edges t + depCount x)) s (new-run (depCount x - 1) 0 (omega arith)))
+      (subst (λ (c : ℕ). Run (stored t x .targets) (stored t x .nexts) (changes t) c (edges t + depCount x)) s (new-run (depCount x - 1) 0 (omega arith)))
       (omega arith))
     where
       pos : (d : ℕ) → (d ≡ 0 → ⊥) → 0 < d
       pos zero n = absurd (n refl)
       pos (suc d) n = omega arith
 
-  pub new-laid : Laid (placed t x .nodes) (placed t x .targets) (placed t x .nexts) (changes (placed t x)) (edges (placed t x))
-  new-laid = subst (λ (e : ℕ). Laid (placed t x .nodes) (placed t x .targets) (placed t x .nexts) (changes (placed t x)) e) (sym new-edges) (go new-list)
+  pub new-laid : Laid (stored t x .nodes) (stored t x .targets) (stored t x .nexts) (changes (stored t x)) (edges (stored t x))
+  new-laid = subst (λ (e : ℕ). Laid (stored t x .nodes) (stored t x .targets) (stored t x .nexts) (changes (stored t x)) e) (sym new-edges) (go new-list)
     where
-      old : Laid (placed t x .nodes) (placed t x .targets) (placed t x .nexts) (changes t) (edges t)
-      old = laid-same (t .targets) (t .nexts) (placed t x .targets) (placed t x .nexts) (edges t) old-target old-next (v .sound .laid) (omega arith) (λ k l. old-number k l 4 (omega arith))
+      old : Laid (stored t x .nodes) (stored t x .targets) (stored t x .nexts) (changes t) (edges t)
+      old = laid-same (t .targets) (t .nexts) (stored t x .targets) (stored t x .nexts) (edges t) old-target old-next (v .sound .laid) (omega arith) (λ k l. old-number k l 4 (omega arith))
 
-      go : {e : ℕ} → NodeLaid (placed t x .nodes) (placed t x .targets) (placed t x .nexts) (changes t) (edges t) e → Laid (placed t x .nodes) (placed t x .targets) (placed t x .nexts) (changes (placed t x)) e
-      go {e} (no-list f q) = let z : changes (placed t x) ≡ changes t + 1 = new-changes ∙ sym (add-one (changes t)) in subst (λ (c : ℕ). Laid (placed t x .nodes) (placed t x .targets) (placed t x .nexts) (changes (placed t x)) c) (sym q) (bare old z f)
-      go {e} (a-list f r b) = let z : changes (placed t x) ≡ changes t + 1 = new-changes ∙ sym (add-one (changes t)) in some old z f r b
+      go : {e : ℕ} → NodeLaid (stored t x .nodes) (stored t x .targets) (stored t x .nexts) (changes t) (edges t) e → Laid (stored t x .nodes) (stored t x .targets) (stored t x .nexts) (changes (stored t x)) e
+      go {e} (no-list f q) = let z : changes (stored t x) ≡ changes t + 1 = new-changes ∙ sym (add-one (changes t)) in subst (λ (c : ℕ). Laid (stored t x .nodes) (stored t x .targets) (stored t x .nexts) (changes (stored t x)) c) (sym q) (bare old z f)
+      go {e} (a-list f r b) = let z : changes (stored t x) ≡ changes t + 1 = new-changes ∙ sym (add-one (changes t)) in some old z f r b
 
   -- dependencies
-  pub old-deps : (k : ℕ) → k < changes t → along (placed t x .targets) (placed t x .nexts) (firstAt (placed t x .nodes) k) ≡ along (t .targets) (t .nexts) (firstAt (t .nodes) k)
+  pub old-deps : (k : ℕ) → k < changes t → along (stored t x .targets) (stored t x .nexts) (firstAt (stored t x .nodes) k) ≡ along (t .targets) (t .nexts) (firstAt (t .nodes) k)
   old-deps k l =
-      ap (along (placed t x .targets) (placed t x .nexts)) (old-number k l 4 (omega arith))
-      ∙ along-same (t .targets) (t .nexts) (placed t x .targets) (placed t x .nexts) (edges t) (next-inside (t .nodes) (t .targets) (t .nexts) (v .sound .laid)) old-target old-next targets-long (firstAt (t .nodes) k)
+      ap (along (stored t x .targets) (stored t x .nexts)) (old-number k l 4 (omega arith))
+      ∙ along-same (t .targets) (t .nexts) (stored t x .targets) (stored t x .nexts) (edges t) (next-inside (t .nodes) (t .targets) (t .nexts) (v .sound .laid)) old-target old-next targets-long (firstAt (t .nodes) k)
       (laid-first (t .nodes) (t .targets) (t .nexts) (v .sound .laid) k l)
 
-  pub new-deps : along (placed t x .targets) (placed t x .nexts) (firstAt (placed t x .nodes) (changes t)) ≡ depsOf t x
+  pub new-deps : along (stored t x .targets) (stored t x .nexts) (firstAt (stored t x .nodes) (changes t)) ≡ depsOf t x
   new-deps =
-      node-along (placed t x .nodes) (placed t x .targets) (placed t x .nexts) new-list (let l = targets-long in let f = fit .targets-fit in omega arith)
+      node-along (stored t x .nodes) (stored t x .targets) (stored t x .nexts) new-list (let l = targets-long in let f = fit .targets-fit in omega arith)
       ∙ new-targets t x a fit
 
   -- rows of the clock table
-  pub old-entry : (k : ℕ) → k < changes t → (i : ℕ) → i < actorRoom t → entryAt (placed t x) k i ≡ entryAt t k i
+  pub old-entry : (k : ℕ) → k < changes t → (i : ℕ) → i < actorRoom t → entryAt (stored t x) k i ≡ entryAt t k i
   old-entry k l i h =
       let b : suc k * actorRoom t ≤ changes t * actorRoom t = mul-le-mul-right (actorRoom t) l in
       let c = suc-mul k (actorRoom t) in
-      ap (λ (w : ℕ). getD (placed t x .clocks) (k * w + i) 0) new-width
+      ap (λ (w : ℕ). getD (stored t x .clocks) (k * w + i) 0) new-width
       ∙ paste-low (t .clocks) (changes t * actorRoom t) (replicate (actorRoom t) 0) (actorRoom t) (fit .row-fits) zeros-enough (k * actorRoom t + i) (omega arith)
 
-  pub new-entry : (i : ℕ) → i < actorRoom t → entryAt (placed t x) (changes t) i ≡ 0
+  pub new-entry : (i : ℕ) → i < actorRoom t → entryAt (stored t x) (changes t) i ≡ 0
   new-entry i h =
-      ap (λ (w : ℕ). getD (placed t x .clocks) (changes t * w + i) 0) new-width
+      ap (λ (w : ℕ). getD (stored t x .clocks) (changes t * w + i) 0) new-width
       ∙ paste-in (t .clocks) (changes t * actorRoom t) (replicate (actorRoom t) 0) (actorRoom t) (fit .row-fits) zeros-enough i h
       ∙ getD-replicate {A = ℕ} (actorRoom t) i 0 0 h

@@ -23,7 +23,7 @@ use Rattle.judge.specs.declared.Judged.the-variants.{Done}
 use Rattle.paper.specs.Adding.{Change}
 use Rattle.judge.specs.Judge.{depCount, judged}
 use Rattle.judge.specs.JudgeLaws.{Accepted, accepted}
-use Rattle.graph.specs.Place.{depsOf, placed}
+use Rattle.graph.specs.Place.{depsOf, stored}
 use Rattle.graph.specs.PlaceLaws.{Fits, fits, deps-long, nodes-low}
 use Rattle.graph.specs.Grown.{new-changes, new-edges, new-actors, new-width, new-lengths, hashes-long, targets-long, old-hash, new-hash, old-number, old-actor, old-head, new-actor, new-seq, new-max, new-ops, new-head, new-laid, old-deps, new-deps, old-entry, new-entry}
 
@@ -39,7 +39,7 @@ pub record Grows (g : Graph) (x : Change) (ds : List ℕ) (g′ : Graph) : Type 
   pub deps : g′ .deps (g .size) ≡ ds
 
 module _ (t : Tables) (x : Change) (v : Valid t) (a : Accepted t x) where
-  pub extended : Extends (graph t) (graph (placed t x))
+  pub extended : Extends (graph t) (graph (stored t x))
   extended = record {
     longer = let n = new-changes t x v a in omega arith;
     hashes = old-hash t x v a;
@@ -51,7 +51,7 @@ module _ (t : Tables) (x : Change) (v : Valid t) (a : Accepted t x) where
   }
 
   -- the graph grows by the change
-  pub grows : Grows (graph t) x (depsOf t x) (graph (placed t x))
+  pub grows : Grows (graph t) x (depsOf t x) (graph (stored t x))
   grows = record {
     extends = extended;
     one-more = new-changes t x v a;
@@ -64,10 +64,10 @@ module _ (t : Tables) (x : Change) (v : Valid t) (a : Accepted t x) where
   }
 
   -- what holds of each old node and of the new one holds of each
-  each : (P : ℕ → Type 0) → ((k : ℕ) → k < changes t → P k) → P (changes t) → (k : ℕ) → k < changes (placed t x) → P k
+  each : (P : ℕ → Type 0) → ((k : ℕ) → k < changes t → P k) → P (changes t) → (k : ℕ) → k < changes (stored t x) → P k
   each P old new k l = below-suc P (changes t) k (let n = new-changes t x v a in omega arith) (old k) new
 
-  pub low : (j : ℕ) → mem j (graph (placed t x) .deps (changes t)) ≡ true → j < changes t
+  pub low : (j : ℕ) → mem j (graph (stored t x) .deps (changes t)) ≡ true → j < changes t
   low j m =
       let p = mem-place j (depsOf t x) (rw (new-deps t x v a) at m) in
       let l = deps-long t x a (fits t x v a) in
@@ -76,16 +76,16 @@ module _ (t : Tables) (x : Change) (v : Valid t) (a : Accepted t x) where
       let e : getD (depsOf t x) (p .0) 0 ≡ j = p .2 in
       omega arith
 
-  pub next : seqAt (placed t x .nodes) (changes t) ≡ suc (tally (λ j. eqb (actorAt (t .nodes) j) (actorAt (placed t x .nodes) (changes t))) (changes t))
+  pub next : seqAt (stored t x .nodes) (changes t) ≡ suc (tally (λ j. eqb (actorAt (t .nodes) j) (actorAt (stored t x .nodes) (changes t))) (changes t))
   next = new-seq t x v a ∙ a .next ∙ ap (λ (b : ℕ). suc (countOf (t .nodes) b (changes t))) (sym (new-actor t x v a))
 
   pub old-valid : ValidGraph (graph t)
   old-valid = valid-graph t (v .sound)
 
-  pub new-valid : ValidGraph (graph (placed t x))
-  new-valid = valid-add (graph t) (graph (placed t x)) old-valid extended (new-changes t x v a) low next
+  pub new-valid : ValidGraph (graph (stored t x))
+  new-valid = valid-add (graph t) (graph (stored t x)) old-valid extended (new-changes t x v a) low next
 
-  counts : Counts (placed t x .hashes) (placed t x .targets) (placed t x .clocks) (placed t x .counts)
+  counts : Counts (stored t x .hashes) (stored t x .targets) (stored t x .clocks) (stored t x .counts)
   counts =
       let n = new-changes t x v a in
       let e = new-edges t x v a in
@@ -99,20 +99,20 @@ module _ (t : Tables) (x : Change) (v : Valid t) (a : Accepted t x) where
         actors-fit = let b = v .sound .counts .actors-fit in omega arith;
       }
 
-  distinct : Distinct (placed t x .hashes) (changes (placed t x))
+  distinct : Distinct (stored t x .hashes) (changes (stored t x))
   unfolding Distinct FoundIs
   distinct =
-      each (λ (j : ℕ). (i : ℕ) → i < j → hashAt (placed t x .hashes) i ≡ hashAt (placed t x .hashes) j → ⊥)
+      each (λ (j : ℕ). (i : ℕ) → i < j → hashAt (stored t x .hashes) i ≡ hashAt (stored t x .hashes) j → ⊥)
       (λ j l i h q. v .sound .distinct j l i h (sym (old-hash t x v a i (omega arith)) ∙ q ∙ old-hash t x v a j l))
       (λ i h q.
       let f : FoundIs (t .hashes) (changes t) (x .hash) Nowhere = subst (FoundIs (t .hashes) (changes t) (x .hash)) (a .fresh) (find-is (t .hashes) (changes t) (x .hash)) in
       f i h (sym (old-hash t x v a i h) ∙ q ∙ new-hash t x v a))
 
-  numbers : Numbers (placed t x .nodes) (changes (placed t x)) (actors (placed t x))
+  numbers : Numbers (stored t x .nodes) (changes (stored t x)) (actors (stored t x))
   unfolding Numbers
   numbers =
       let w = new-actors t x v a in
-      each (NumbersAt (placed t x .nodes) (actors (placed t x)))
+      each (NumbersAt (stored t x .nodes) (actors (stored t x)))
       (λ k l.
       let o = v .sound .numbers k l in
       let c = old-actor t x v a k l in
@@ -125,17 +125,17 @@ module _ (t : Tables) (x : Change) (v : Valid t) (a : Accepted t x) where
       record { actor-low = omega (arith, a .actor-low); ops-low = omega (arith, a .ops-low) })
 
   -- the heads are the old ones that it does not depend on, and the change itself
-  heads : Heads (placed t x)
+  heads : Heads (stored t x)
   unfolding Heads
   heads =
-      each (λ (k : ℕ). headAt (placed t x .nodes) k ≡ cond (wanted (graph (placed t x)) k) 0 1)
+      each (λ (k : ℕ). headAt (stored t x .nodes) k ≡ cond (wanted (graph (stored t x)) k) 0 1)
       (λ k l.
       old-head t x v a k l
       ∙ ap (cond (mem k (depsOf t x)) 0) (v .sound .heads k l)
       ∙ either (mem k (depsOf t x)) (wanted (graph t) k)
       ∙ ap (λ (ds : List ℕ). cond (wanted (graph t) k || mem k ds) 0 1) (sym (new-deps t x v a))
-      ∙ ap (λ (b : Bool). cond b 0 1) (sym (wanted-add (graph t) (graph (placed t x)) old-valid extended (new-changes t x v a) low next k)))
-      (new-head t x v a ∙ ap (λ (b : Bool). cond b 0 1) (sym (new-unwanted (graph t) (graph (placed t x)) old-valid extended (new-changes t x v a) low next)))
+      ∙ ap (λ (b : Bool). cond b 0 1) (sym (wanted-add (graph t) (graph (stored t x)) old-valid extended (new-changes t x v a) low next k)))
+      (new-head t x v a ∙ ap (λ (b : Bool). cond b 0 1) (sym (new-unwanted (graph t) (graph (stored t x)) old-valid extended (new-changes t x v a) low next)))
     where
       either : (m w : Bool) → _≡_ {A = ℕ} (cond m 0 (cond w 0 1)) (cond (w || m) 0 1)
       either true true = refl
@@ -143,22 +143,22 @@ module _ (t : Tables) (x : Change) (v : Valid t) (a : Accepted t x) where
       either false true = refl
       either false false = refl
 
-  rows : Rows (placed t x)
+  rows : Rows (stored t x)
   unfolding Rows
   rows =
       let w = new-width t x v a in
-      each (λ (k : ℕ). ((i : ℕ) → i < actorRoom (placed t x) → entryAt (placed t x) k i ≡ 0) ⊎ ((i : ℕ) → i < actorRoom (placed t x) → entryAt (placed t x) k i ≡ clock (graph (placed t x)) (k ∷ []) i))
+      each (λ (k : ℕ). ((i : ℕ) → i < actorRoom (stored t x) → entryAt (stored t x) k i ≡ 0) ⊎ ((i : ℕ) → i < actorRoom (stored t x) → entryAt (stored t x) k i ≡ clock (graph (stored t x)) (k ∷ []) i))
       (λ k l.
       ⊎-elim
       (λ z. inl (λ i h. old-entry t x v a k l i (omega arith) ∙ z i (omega arith)))
       (λ z.
       inr (λ i h.
       old-entry t x v a k l i (omega arith) ∙ z i (omega arith)
-      ∙ sym (clock-extend (graph t) (graph (placed t x)) old-valid new-valid extended (k ∷ []) (λ j m. let e = mem-single j k m in omega arith) i)))
+      ∙ sym (clock-extend (graph t) (graph (stored t x)) old-valid new-valid extended (k ∷ []) (λ j m. let e = mem-single j k m in omega arith) i)))
       (v .rows k l))
       (inl (λ i h. new-entry t x v a i (omega arith)))
 
-  pub stays-valid : Valid (placed t x)
+  pub stays-valid : Valid (stored t x)
   unfolding Running
   stays-valid = record {
     sound = record {
@@ -175,8 +175,8 @@ module _ (t : Tables) (x : Change) (v : Valid t) (a : Accepted t x) where
 
 -- ---- the promise of `place`, in the paper's words
 
-pub placed-valid : (t : Tables) (x : Change) → Valid t → judged t x ≡ Done → Valid (placed t x)
-placed-valid t x v d = stays-valid t x v (accepted t x d)
+pub stored-valid : (t : Tables) (x : Change) → Valid t → judged t x ≡ Done → Valid (stored t x)
+stored-valid t x v d = stays-valid t x v (accepted t x d)
 
-pub placed-grows : (t : Tables) (x : Change) → Valid t → judged t x ≡ Done → Grows (graph t) x (depsOf t x) (graph (placed t x))
-placed-grows t x v d = grows t x v (accepted t x d)
+pub stored-grows : (t : Tables) (x : Change) → Valid t → judged t x ≡ Done → Grows (graph t) x (depsOf t x) (graph (stored t x))
+stored-grows t x v d = grows t x v (accepted t x d)

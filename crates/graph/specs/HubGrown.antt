@@ -30,7 +30,7 @@ use Rattle.judge.specs.HubLaws.{judged-agrees}
 use Rattle.graph.specs.Place.{nodeOf, nodesFrom, depsOf, placed, added}
 use Rattle.graph.specs.PlaceLaws.{none-missing, added-done, added-refused}
 use Rattle.graph.specs.Grown.{hashes-long, targets-long, new-actors}
-use Rattle.graph.specs.Growth.{Grows, placed-grows}
+use Rattle.graph.specs.Growth.{Grows, stored-grows}
 
 -- ---- the dependencies' nodes
 
@@ -79,7 +79,7 @@ module _ (t : Tables) (x : Change) (v : Valid t) where
   pub placed-grown : judged t x ≡ Done → SameGraph (grown (graph t) x) (graph (placed t x))
   placed-grown d =
       grows-grown (graph t) (graph (placed t x)) x
-      (subst (λ (ds : List ℕ). Grows (graph t) x ds (graph (placed t x))) (deps-nodes t x (accepted t x d)) (placed-grows t x v d))
+      (subst (λ (ds : List ℕ). Grows (graph t) x ds (graph (placed t x))) (deps-nodes t x (accepted t x d)) (stored-grows t x v d))
 
   -- the graph and its room after adding, whatever the answer is
   pub added-hub : SameHub (paper-added (hub t) x) (hub (added t x))

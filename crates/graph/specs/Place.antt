@@ -7,10 +7,13 @@ use lib.Dec.{eqb}
 use lib.ListN.{length, set, replicate}
 use lib.Seq.{paste}
 use Rattle.paper.specs.Lists.{hashAt}
+use Rattle.paper.specs.Caching.{cache-due}
 use Rattle.hash.specs.Hash.{findHash}
 use Rattle.hash.specs.declared.Found.{Found}
 use Rattle.hash.specs.declared.Found.the-variants.{At, Unknown as Nowhere}
 use Rattle.tables.specs.Tables.{Tables, changes, edges, actorRoom}
+use Rattle.cache.specs.Cache.{afterCaching}
+use Rattle.cache.specs.RowLaws.{with-clocks}
 use Rattle.judge.specs.declared.Judged.{Judged}
 use Rattle.judge.specs.declared.Judged.the-variants.{Done, Malformed, Known, Unknown, NoActor, WrongSequence, BadOps, TooManyDeps, NoNodeRoom, NoEdgeRoom}
 use Rattle.paper.specs.Adding.{Change}
@@ -52,9 +55,9 @@ withNode ns n a s m c f = set (set (set (set (set (set ns (6 * n) a) (6 * n + 1)
 abbrev pub depsOf : Tables → Change → List ℕ
 depsOf t x = nodesOf (t .hashes) (changes t) (x .deps)
 
--- the change takes the next node, and its dependencies the next edges. Its clock is not cached
-abbrev pub placed : Tables → Change → Tables
-placed t x =
+-- the change takes the next node, and its dependencies the next edges. Its clock is not cached yet
+abbrev pub stored : Tables → Change → Tables
+stored t x =
     record {
       hashes = paste (t .hashes) (32 * changes t) (x .hash) (length (x .hash));
       nodes = withNode (unheaded (depsOf t x) (t .nodes)) (changes t) (x .actor) (x .seq) (x .max-op) (x .ops) (firstEdge (depCount x) (edges t));
@@ -63,6 +66,14 @@ placed t x =
       clocks = paste (t .clocks) (changes t * actorRoom t) (replicate (actorRoom t) 0) (actorRoom t);
       counts = set (set (t .counts) 0 (changes t + 1)) 1 (edges t + depCount x);
     }
+
+-- the clock table after node k was added: its clock is cached where it is due
+abbrev pub dueClocks : Tables → ℕ → List ℕ
+dueClocks t k = cond (cache-due k) (afterCaching t k) (t .clocks)
+
+-- the change stored, and its clock cached where it is due
+abbrev pub placed : Tables → Change → Tables
+placed t x = with-clocks (stored t x) (dueClocks (stored t x) (changes t))
 
 -- the new tables where the answer is Done, and else the old ones
 abbrev pub ifDone : Judged → Tables → Tables → Tables

@@ -3,7 +3,7 @@
 use mathlib.Core.Path.{_≡_, refl, sym, ap, subst, _∙_}
 use mathlib.Core.Bool.{Bool, true, false, cond}
 use mathlib.Core.List.{List, [], _∷_}
-use Prim.Native.Nat.{ℕ, zero, suc, _+_, _*_, _-_, _/_, _≤_, _<_}
+use Prim.Native.Nat.{ℕ, zero, suc, _+_, _*_, _-_, _/_, _%_, _≤_, _<_}
 use native.Mathlib.Numerals.{add-one}
 use native.Mathlib.Omega.{arith}
 use lib.Dec.{eqb}
@@ -28,7 +28,9 @@ use Rattle.tables.specs.CheckLaws.{tally-bound}
 use Rattle.paper.specs.Adding.{Change}
 use Rattle.judge.specs.Judge.{depCount, judged, numberOf}
 use Rattle.judge.specs.JudgeLaws.{Accepted}
-use Rattle.graph.specs.Place.{nodeOf, nodesFrom, nextsFrom, unheaded, depsOf, placed, ifDone, added}
+use Rattle.paper.specs.Caching.{cache-due}
+use Rattle.cache.specs.Cache.{afterCaching}
+use Rattle.graph.specs.Place.{nodeOf, nodesFrom, nextsFrom, unheaded, depsOf, stored, dueClocks, placed, ifDone, added}
 use Rattle.judge.specs.declared.Judged.{Judged}
 use Rattle.judge.specs.declared.Judged.the-variants.{Done, Malformed, Known as AlreadyKnown, Unknown, NoActor, WrongSequence, BadOps, TooManyDeps, NoNodeRoom, NoEdgeRoom}
 
@@ -169,19 +171,19 @@ module _ (t : Tables) (x : Change) (a : Accepted t x) (f : Fits t x) where
   deps-long = nodes-long (t .hashes) (changes t) (x .deps) (depCount x) 0
 
   -- the new edges' targets are nodes in use
-  pub new-targets-low : (i : ℕ) → edges t ≤ i → i < edges t + depCount x → getD (placed t x .targets) i 0 < changes t
+  pub new-targets-low : (i : ℕ) → edges t ≤ i → i < edges t + depCount x → getD (stored t x .targets) i 0 < changes t
   new-targets-low i l h =
       let e : edges t + (i - edges t) ≡ i = omega arith in
       let b = nodes-low (t .hashes) (changes t) (x .deps) (a .all-known) (i - edges t) (omega arith) in
       let q = paste-in (t .targets) (edges t) (depsOf t x) (depCount x) (f .targets-fit) (let z = deps-long in omega arith) (i - edges t) (omega arith) in
-      subst (λ (k : ℕ). getD (placed t x .targets) k 0 < changes t) e (rw q b)
+      subst (λ (k : ℕ). getD (stored t x .targets) k 0 < changes t) e (rw q b)
 
   -- they are the change's dependencies
-  pub new-targets : slice (edges t) (edges t + depCount x) (placed t x .targets) ≡ depsOf t x
+  pub new-targets : slice (edges t) (edges t + depCount x) (stored t x .targets) ≡ depsOf t x
   new-targets = paste-part (t .targets) (edges t) (depsOf t x) (depCount x) (f .targets-fit) (let z = deps-long in omega arith) deps-long
 
-  pub placed-targets-long : length (placed t x .targets) ≡ length (t .targets)
-  placed-targets-long = paste-long (t .targets) (edges t) (depsOf t x) (depCount x) (f .targets-fit) (let z = deps-long in omega arith)
+  pub stored-targets-long : length (stored t x .targets) ≡ length (t .targets)
+  stored-targets-long = paste-long (t .targets) (edges t) (depsOf t x) (depCount x) (f .targets-fit) (let z = deps-long in omega arith)
 
 -- ---- refused, and accepted
 
@@ -209,3 +211,14 @@ module _ (t : Tables) (x : Change) where
 -- tables that agree in each list are the same
 pub same-tables : {hs hs′ ns ns′ ts ts′ xs xs′ cs cs′ us us′ : List ℕ} → hs ≡ hs′ → ns ≡ ns′ → ts ≡ ts′ → xs ≡ xs′ → cs ≡ cs′ → us ≡ us′ → tables hs ns ts xs cs us ≡ tables hs′ ns′ ts′ xs′ cs′ us′
 same-tables a b c d e f = rw (a, b, c, d, e, f)
+
+-- ---- a clock that is due
+
+module _ (t : Tables) (k : ℕ) where
+  pub due-not : ((k + 1) % 16 ≡ 0 → ⊥) → dueClocks t k ≡ t .clocks
+  unfolding cache-due
+  due-not n = rw (ne-eqb (suc k % 16) 0 (λ q. n (ap (λ (m : ℕ). m % 16) (add-one k) ∙ q)))
+
+  pub due-now : (k + 1) % 16 ≡ 0 → dueClocks t k ≡ afterCaching t k
+  unfolding cache-due
+  due-now e = rw (eq-eqb (suc k % 16) 0 (ap (λ (m : ℕ). m % 16) (sym (add-one k)) ∙ e))

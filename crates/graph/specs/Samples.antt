@@ -12,7 +12,7 @@ use Rattle.tables.specs.Tables.{Tables, tables, widthOf, links, graph}
 use Rattle.judge.specs.declared.Judged.the-variants.{Done, Known, Unknown, WrongSequence, BadOps, NoNodeRoom}
 use Rattle.paper.specs.Adding.{Change}
 use Rattle.judge.specs.Judge.{change, judged}
-use Rattle.graph.specs.Place.{nodesFrom, nextsFrom, unheaded, placed}
+use Rattle.graph.specs.Place.{nodesFrom, nextsFrom, unheaded, stored}
 
 -- Hn: the digit n 64 times
 abbrev H : ℕ → List ℕ
@@ -32,13 +32,13 @@ abbrev h3 : Change
 h3 = change (H 3) 0 2 5 2 (H 1)
 
 abbrev one : Tables
-one = placed empty h1
+one = stored empty h1
 
 abbrev two : Tables
-two = placed one h2
+two = stored one h2
 
 abbrev three : Tables
-three = placed two h3
+three = stored two h3
 
 first-added : judged empty h1 ≡ Done
 unfolding hashAt sameList sameHash findFrom findHash unknownFrom firstUnknown tally judged
