@@ -2,7 +2,7 @@
 -- Each record below is what one public operation promises, said of whole stores; a run is any list of such calls, refused ones too.
 -- Assumes nothing.
 use mathlib.Core.Path.{_≡_, refl, sym, ap, _∙_, subst}
-use mathlib.Core.Logic.{⊎-elim}
+use mathlib.Core.Logic.{_⊎_, ⊎-elim}
 use Prim.Native.Nat.{ℕ, zero, suc, _+_, _<_, _≤_}
 use native.Mathlib.Omega.{arith}
 use mathlib.Core.List.{List, [], _∷_, _++_}
@@ -10,11 +10,11 @@ use mathlib.Core.Bool.{Bool, true, false, not, cond}
 use lib.Dec.{ltb}
 use lib.ListN.{length, getD, set}
 use borrow.Author.Tests.{ltb-false}
-use Rattle.paper.specs.Lists.{mem, pick}
+use Rattle.paper.specs.Lists.{mem, names, hashAt}
 use Rattle.paper.specs.Queue.{Waiting, Queue, of-list, order, rest, dropped, kept, Books, fresh, Call, push, hand-over, release, drop-branch, changes, after-release, after-drop, after, after-all, Balanced}
 use Rattle.paper.proofs.Books.{balanced-always}
 use Rattle.ready.specs.Tables.{queueOf, recordAt, knownIn}
-use Rattle.records.specs.Records.{Rooms}
+use Rattle.records.specs.Records.{Filled, placeOf}
 use Rattle.waiting.specs.Valid.{room, waiting, Laid, Valid, Checked, Same, isRoomy, OpenedTo}
 use Rattle.waiting.specs.ValidLaws.{roomy-rooms}
 use Rattle.waiting.specs.Taken.{TakenOut}
@@ -36,7 +36,7 @@ use Rattle.branch.specs.declared.Removed.the-variants.{Done as Gone, NotValid a
 use Rattle.books.specs.View.{listOf}
 use Rattle.books.specs.Alike.{Alike, Low, order-alike, rest-alike, kept-alike, changes-alike}
 use Rattle.books.specs.Listed.{list-alike, low-order, low-rest, low-kept}
-use Rattle.books.specs.Stays.{change, opened-valid, opened-list, pushed-valid, pushed-list, handed-valid, handed-list, emptied-valid, emptied-list, taken-valid, taken-list, given-list}
+use Rattle.books.specs.Stays.{change, opened-valid, opened-list, pushed-valid, pushed-list, handed-valid, handed-list, emptied-valid, emptied-list, taken-valid, taken-list, given-list, given-in-order}
 
 -- the lent tables of a queue or a batch
 pub record Store : Type 0 where
@@ -134,7 +134,7 @@ sure : {lent good bad : Type 0} → Checked lent good bad → lent → good
 sure c v = ⊎-elim (λ x. x .1) (λ x. absurd (x .0 v)) c
 
 module _ {q b b′ : Store} {h : List ℕ} {key seq top ops : ℕ} {needs : List ℕ} {k : Books} (s : Holds q b k) where
-  push-holds : (r : Pushed) → Pushing b h key seq top ops needs r b′ → Holds q b′ (after-all (push-calls r (change h key seq top ops needs)) k)
+  pub push-holds : (r : Pushed) → Pushing b h key seq top ops needs r b′ → Holds q b′ (after-all (push-calls r (change h key seq top ops needs)) k)
   unfolding PushedTo after-all after
   push-holds Done p =
       let f = done-fine (b .hashes) (b .numbers) (b .count) h key seq needs (sym (sure (p .answer) (s .batch))) in
@@ -164,14 +164,14 @@ over-fine hs ns cs bhs bns bcs e =
     told false x rest bad e = (refl, e)
 
 -- the batch with another count
-abbrev counted : Store → List ℕ → Store
+abbrev pub counted : Store → List ℕ → Store
 counted b cs = record { hashes = b .hashes; numbers = b .numbers; deps = b .deps; count = cs }
 
 module _ {q b q′ : Store} {bcs′ : List ℕ} {k : Books} (s : Holds q b k) where
   not-handed : NotHanded (q .hashes) (q .numbers) (q .deps) (q .count) (b .count) (q′ .hashes) (q′ .numbers) (q′ .deps) (q′ .count) bcs′ → Holds q′ (counted b bcs′) k
   not-handed n = same-batch {b = b} {b′ = counted b bcs′} (same-queue s (n .queue)) (record { hashes = refl; numbers = refl; deps = refl; count = n .batch })
 
-  hand-holds : (r : Handed) → Handing q b r q′ bcs′ → Holds q′ (counted b bcs′) (after-all (hand-calls r) k)
+  pub hand-holds : (r : Handed) → Handing q b r q′ bcs′ → Holds q′ (counted b bcs′) (after-all (hand-calls r) k)
   unfolding HandedTo after-all after
   hand-holds Over p =
       let f = over-fine (q .hashes) (q .numbers) (q .count) (b .hashes) (b .numbers) (b .count) (sym (sure (p .answer) (s .queue, s .batch))) in
@@ -186,7 +186,7 @@ module _ {q b q′ : Store} {bcs′ : List ℕ} {k : Books} (s : Holds q b k) wh
   hand-holds NoRoom p = not-handed (p .memory)
 
 -- the paper's queue of a list, and the queue of the tables
-abbrev tabled : Store → Queue
+abbrev pub tabled : Store → Queue
 tabled q = queueOf (q .hashes) (q .numbers) (q .deps) (waiting (q .count))
 
 released-list : (gs : List ℕ) (n : ℕ) (q : Store) (w : List Waiting) → held q ≡ w
@@ -196,7 +196,7 @@ released-list gs n q w e =
     (changes-alike (tabled q) (of-list (held q)) (list-alike (q .hashes) (q .numbers) (q .deps) (waiting (q .count))) (rest (knownIn gs n) (tabled q)) (low-rest (knownIn gs n) (tabled q))
     ∙ ap (changes (of-list (held q))) (rest-alike (tabled q) (of-list (held q)) (list-alike (q .hashes) (q .numbers) (q .deps) (waiting (q .count))) (knownIn gs n)))
 
-release-holds : (gs : List ℕ) (n : ℕ) {q b q′ : Store} {th tn td th′ tn′ td′ : List ℕ} {k : Books} → Holds q b k → (r : Released) → Releasing gs n q th tn td r q′ th′ tn′ td′
+pub release-holds : (gs : List ℕ) (n : ℕ) {q b q′ : Store} {th tn td th′ tn′ td′ : List ℕ} {k : Books} → Holds q b k → (r : Released) → Releasing gs n q th tn td r q′ th′ tn′ td′
     → Holds q′ b (after-all (release-calls r (knownIn gs n)) k)
 unfolding ReleasedTo restOf rest after-all after after-release
 release-holds gs n {q} {k = k} s (All m) p =
@@ -209,13 +209,47 @@ release-holds gs n {q} {k = k} s (All m) p =
 release-holds gs n s Short p = same-queue s (p .memory .queue)
 release-holds gs n s NotReleased p = same-queue s (p .memory .queue)
 
+-- a release that answers 0 had room for all
+all-roomy : (b : Bool) (m n : ℕ) → All m ≡ cond b (All n) Short → (b ≡ true) × (m ≡ n)
+all-roomy true m n e = (refl, cc)
+all-roomy false m n e = let z : _≡_ {A = ℕ} 0 1 = cc in absurd (omega arith)
+
+module _ (gs : List ℕ) (n : ℕ) {q q′ : Store} {th tn td th′ tn′ td′ : List ℕ} (v : Good q) (m : ℕ) (p : Releasing gs n q th tn td (All m) q′ th′ tn′ td′) where
+  all-of : (isRoomy (length th) (length tn) (length td) (length (readyOf gs n (q .hashes) (q .numbers) (q .deps) (q .count))) ≡ true) × (m ≡ length (readyOf gs n (q .hashes) (q .numbers) (q .deps) (q .count)))
+  unfolding releasedAs
+  all-of =
+      all-roomy (isRoomy (length th) (length tn) (length td) (length (readyOf gs n (q .hashes) (q .numbers) (q .deps) (q .count)))) m (length (readyOf gs n (q .hashes) (q .numbers) (q .deps) (q .count)))
+      (⊎-elim (λ x. x .1) (λ x. never (x .1)) (p .answer))
+    where
+      never : All m ≡ NotReleased → All m ≡ releasedAs (readyOf gs n (q .hashes) (q .numbers) (q .deps) (q .count)) th tn td
+      never e = let z : _≡_ {A = ℕ} 0 1 = cc in absurd (omega arith)
+
+  answered : Filled (q .hashes) (q .numbers) (q .deps) (placeOf (readyOf gs n (q .hashes) (q .numbers) (q .deps) (q .count))) 0 (length (readyOf gs n (q .hashes) (q .numbers) (q .deps) (q .count))) th tn td th′ tn′ td′
+  unfolding ReleasedTo
+  answered = p .memory .answer
+
+  ordered-list : changes (tabled q) (readyOf gs n (q .hashes) (q .numbers) (q .deps) (q .count)) ≡ changes (of-list (held q)) (order (knownIn gs n) (of-list (held q)))
+  unfolding readyOf
+  ordered-list =
+      changes-alike (tabled q) (of-list (held q)) (list-alike (q .hashes) (q .numbers) (q .deps) (waiting (q .count))) (order (knownIn gs n) (tabled q)) (low-order (knownIn gs n) (tabled q))
+      ∙ ap (changes (of-list (held q))) (order-alike (tabled q) (of-list (held q)) (list-alike (q .hashes) (q .numbers) (q .deps) (waiting (q .count))) (knownIn gs n))
+
+  -- the answer tables hold what the paper's call adds to the released ones
+  pub release-gives : listOf th′ tn′ td′ m ≡ changes (of-list (held q)) (order (knownIn gs n) (of-list (held q)))
+  release-gives = ap (listOf th′ tn′ td′) (all-of .1) ∙ (given-list gs n v (roomy-rooms th tn td (length (readyOf gs n (q .hashes) (q .numbers) (q .deps) (q .count))) (all-of .0)) answered ∙ ordered-list)
+
+  -- what a released change depends on is known, or is the hash of one released before it: the rule of adding
+  pub release-in-order : (i : ℕ) → i < m → (d : List ℕ) → names d (recordAt th′ tn′ td′ i .deps) ≡ true → (knownIn gs n d ≡ true) ⊎ ((e : ℕ) × (e < i) × (hashAt th′ e ≡ d))
+  release-in-order i l d x =
+      given-in-order gs n v (roomy-rooms th tn td (length (readyOf gs n (q .hashes) (q .numbers) (q .deps) (q .count))) (all-of .0)) answered i (omega (arith, all-of .1)) d x
+
 dropped-list : (key from : ℕ) (q : Store) (w : List Waiting) → held q ≡ w → changes (tabled q) (kept (tabled q) key from) ≡ changes (of-list w) (kept (of-list w) key from)
 dropped-list key from q w e =
     subst (λ (l : List Waiting). changes (tabled q) (kept (tabled q) key from) ≡ changes (of-list l) (kept (of-list l) key from)) e
     (changes-alike (tabled q) (of-list (held q)) (list-alike (q .hashes) (q .numbers) (q .deps) (waiting (q .count))) (kept (tabled q) key from) (low-kept (tabled q) key from)
     ∙ ap (changes (of-list (held q))) (kept-alike (tabled q) (of-list (held q)) (list-alike (q .hashes) (q .numbers) (q .deps) (waiting (q .count))) key from))
 
-drop-holds : (key from : ℕ) {q b q′ : Store} {k : Books} → Holds q b k → (r : Removed) → Dropping q key from r q′ → Holds q′ b (after-all (drop-calls r key from) k)
+pub drop-holds : (key from : ℕ) {q b q′ : Store} {k : Books} → Holds q b k → (r : Removed) → Dropping q key from r q′ → Holds q′ b (after-all (drop-calls r key from) k)
 unfolding RemovedTo keptOf kept after-all after after-drop
 drop-holds key from {q} {k = k} s Gone p =
     record {
