@@ -35,7 +35,7 @@ use Rattle.session.specs.Ask.{Asking}
 
 -- ---- what a put's answer says
 
-put-next : (bs : List ℕ) (at room p : ℕ) → Next p ≡ putAnswer bs at room → (at + length bs ≤ room) × (p ≡ at + length bs)
+pub put-next : (bs : List ℕ) (at room p : ℕ) → Next p ≡ putAnswer bs at room → (at + length bs ≤ room) × (p ≡ at + length bs)
 unfolding putAnswer
 put-next bs at room p e = go (leb (at + length bs) room) refl e
   where
@@ -43,7 +43,7 @@ put-next bs at room p e = go (leb (at + length bs) room) refl e
     go true l q = (leb-true _ _ l, cc)
     go false l q = let z : _≡_ {A = ℕ} 0 1 = cc in absurd (omega arith)
 
-put-full : (bs : List ℕ) (at room : ℕ) → Full ≡ putAnswer bs at room → room < at + length bs
+pub put-full : (bs : List ℕ) (at room : ℕ) → Full ≡ putAnswer bs at room → room < at + length bs
 unfolding putAnswer
 put-full bs at room e = go (leb (at + length bs) room) refl e
   where

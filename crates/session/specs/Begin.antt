@@ -2,7 +2,7 @@
 -- Assumes nothing.
 use mathlib.Core.Path.{_≡_}
 use mathlib.Core.List.{List}
-use Prim.Native.Nat.{ℕ, _≤_}
+use Prim.Native.Nat.{ℕ, _≤_, _<_}
 use lib.ListN.{length}
 use Rattle.paper.specs.Session.{asking, bench, badText, answers}
 use Rattle.text.specs.Parts.{part, partsFrom}
@@ -14,6 +14,7 @@ use Rattle.session.specs.declared.Begin.the-variants.{Opens, Bad}
 pub record Inside (s : List ℕ) (a e : ℕ) (c : Cursor) : Type 0 where
   pub order : a ≤ e
   pub low : e ≤ length s
+  pub past : e < c .at
   pub next : c .at ≤ length s
   pub short : length (part s a e) ≤ 2400
 
@@ -23,6 +24,7 @@ pub record Opened (text s : List ℕ) (n : ℕ) (c : Cursor) : Type 0 where
   pub low : 1 ≤ n
   pub high : n ≤ 16
   pub inside : c .at ≤ length s
+  pub far : 3 ≤ c .at
 
 -- the first two lines are right, or one of them is bad
 abbrev pub Begun : List ℕ → List ℕ → Begin → Type 0

@@ -6,22 +6,24 @@ use mathlib.Core.Bool.{Bool, true, false, cond, _&&_}
 use mathlib.Core.Option.{Option, none, some}
 use Prim.Native.Nat.{ℕ, suc, _≤_}
 use native.Mathlib.Omega.{arith}
+use native.Mathlib.Decide.{ℕ-discrete}
 use lib.Dec.{leb}
 use lib.ListN.{length}
 use borrow.Author.Tests.{le-leb, leb-true}
+use Rattle.paper.specs.Bytes.{bytes}
 use Rattle.paper.specs.Lists.{sameList}
 use Rattle.paper.specs.Text.{parted, numberOf, given, next, last}
 use Rattle.paper.specs.Command.{header, actorsWord, inRange, actorsBy, actorsOf}
 use Rattle.paper.specs.Session.{Phase, first, second, asking, ended, bench, badText, badLine, firstLine, secondLine, shortLine, longLine, lineStep, ending, answers, session}
 use Rattle.text.specs.Parts.{part, partsFrom}
-use Rattle.text.specs.PartsLaws.{parts-start}
+use Rattle.text.specs.PartsLaws.{parts-start, part-length, same-lengths}
 use Rattle.text.specs.Answers.{lineAt}
 use Rattle.text.specs.declared.Cursor.{Cursor}
 use Rattle.text.specs.declared.Next.the-variants.{Whole, Unended, TooLong, End}
 use Rattle.command.specs.Answers.{actorsAnswer}
 use Rattle.command.specs.declared.Actors.the-variants.{Count, NotActors}
 use Rattle.session.specs.Begin.{Inside, Opened, Begun}
-use Rattle.session.specs.LineLaws.{line-end, line-long, line-open, line-length, line-bounds, line-whole}
+use Rattle.session.specs.LineLaws.{line-is, line-end, line-long, line-open, line-length, line-bounds, line-whole}
 use Rattle.session.specs.declared.Begin.{Begin}
 
 -- after a bad line nothing follows
@@ -98,13 +100,13 @@ actors-range (w ∷ fs) n e = go (sameList w actorsWord) fs e
 -- ---- one line after the other
 
 module _ (s : List ℕ) (a e : ℕ) (c : Cursor) (i : Inside s a e c) where
-  pub second-opens : (n : ℕ) → actorsAnswer (actorsOf (part s a e)) ≡ Count n
+  pub second-opens : 3 ≤ c .at → (n : ℕ) → actorsAnswer (actorsOf (part s a e)) ≡ Count n
       → Opened (lineStep second 2 (part s a e) .said ++ answers (lineStep second 2 (part s a e) .phase) 3 (partsFrom 10 s (c .at))) s n c
   unfolding actorsOf
-  second-opens n h =
+  second-opens l n h =
       let o = actors-some (actorsOf (part s a e)) n h in
       let r = actors-range (parted 9 (part s a e)) n o in
-      record { is = second-right (part s a e) (i .short) (partsFrom 10 s (c .at)) n o; low = r .0; high = r .1; inside = i .next }
+      record { is = second-right (part s a e) (i .short) (partsFrom 10 s (c .at)) n o; low = r .0; high = r .1; inside = i .next; far = l }
 
   pub second-bad : actorsAnswer (actorsOf (part s a e)) ≡ NotActors
       → lineStep second 2 (part s a e) .said ++ answers (lineStep second 2 (part s a e) .phase) 3 (partsFrom 10 s (c .at)) ≡ badText 2
@@ -127,6 +129,14 @@ module _ (s : List ℕ) (a e : ℕ) (c : Cursor) (i : Inside s a e c) where
     unfolding ending
     then-end q = then-second ∙ line-end second 2 s (c .at) (i .next) q
 
+    -- the header has 13 bytes
+    pub second-far : (b f : ℕ) (d : Cursor) → lineAt s (c .at) ≡ Whole b f d → 3 ≤ d .at
+    unfolding header bytes
+    second-far b f d q = elim (ℕ-discrete (length (part s a e)) 13) [
+      | yes l ↦ omega (arith, part-length s a e (i .order) (i .low), i .past, line-bounds first 1 s (c .at) b f d q .3)
+      | no n ↦ (let z : _≡_ {A = Bool} true false = sym h ∙ same-lengths (part s a e) header n in let y : _≡_ {A = ℕ} 0 1 = cc in absurd (omega arith))
+    ]
+
     pub then-line : (b f : ℕ) (d : Cursor) → lineAt s (c .at) ≡ Whole b f d → (r : Begin)
         → Begun (lineStep second 2 (part s b f) .said ++ answers (lineStep second 2 (part s b f) .phase) 3 (partsFrom 10 s (d .at))) s r
         → Begun (lineStep first 1 (part s a e) .said ++ answers (lineStep first 1 (part s a e) .phase) 2 (partsFrom 10 s (c .at))) s r
@@ -136,7 +146,8 @@ module _ (s : List ℕ) (a e : ℕ) (c : Cursor) (i : Inside s a e c) where
 pub line-inside : (s : List ℕ) (at a e : ℕ) (c : Cursor) → lineAt s at ≡ Whole a e c → Inside s a e c
 line-inside s at a e c q =
     let b = line-bounds first 1 s at a e c q in
-    record { order = b .0; low = b .1; next = b .2; short = line-length first 1 s at a e c q }
+    let m = line-is first 1 s at a e c q in
+    record { order = b .0; low = b .1; past = omega (arith, m .end, m .next); next = b .2; short = line-length first 1 s at a e c q }
 
 -- from the start
 module _ (s : List ℕ) where

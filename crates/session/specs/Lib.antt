@@ -4,3 +4,4 @@ pub mod BeginLaws
 pub mod SameLaws
 pub mod Ask
 pub mod AskLaws
+pub mod FinalLaws

@@ -18,7 +18,7 @@ pub enum Begin {
 
 // The second line, from `start` to `end`; what follows it starts at the cursor.
 fn read_second(input: &[u8], start: usize, end: usize, next: Cursor) -> Begin
-    requires { ⌜ Inside (now input) start end next ⌝ }
+    requires { ⌜ Inside (now input) start end next × (3 ≤ next .at) ⌝ }
     ensures { λ r. ⌜ Begun (lineStep second 2 (part (now (input .entry)) start end) .said ++ answers (lineStep second 2 (part (now (input .entry)) start end) .phase) 3 (partsFrom 10 (now (input .entry)) (next .at))) (now (input .entry)) r ⌝ }
 {
     match command::read_actors(&input[start..end]) {

@@ -4,7 +4,7 @@ use borrow.Author.Needs.{needs}
 use borrow.Author.Tests.{not-true, not-false}
 use native.Mathlib.Omega.{arith}
 use mathlib.Core.Path.{sym, _∙_}
-use Rattle.session.specs.BeginLaws.{first-bad, then-open, then-long, then-end, then-line, line-inside}
+use Rattle.session.specs.BeginLaws.{first-bad, then-open, then-long, then-end, then-line, line-inside, second-far}
 use Rattle.session.proofs.read_first.Statement.{statement}
 use Rattle.session.proofs.read_first.Tie as tie
 
@@ -21,7 +21,10 @@ returns : tie.Need-returns
 returns c = first-bad _ _ _ _ (c .before .before .before .before .pre) (sym (c .before .is-header .ensures) ∙ not-true _ (c .if1 .taken))
 
 read-second-requires : tie.Need-read-second-requires
-read-second-requires c κs = line-inside _ _ _ _ _ (sym (c .before .before .before .line .ensures) ∙ c .before .start .given .1)
+read-second-requires c κs = (
+  line-inside _ _ _ _ _ (sym (c .before .before .before .line .ensures) ∙ c .before .start .given .1),
+  second-far _ _ _ _ (c .before .before .before .before .before .before .before .before .pre) (sym (c .before .before .before .before .before .is-header .ensures) ∙ not-false _ (c .before .before .before .before .if1 .left)) _ _ _ (sym (c .before .before .before .line .ensures) ∙ c .before .start .given .1),
+)
 
 returns-2 : tie.Need-returns-2
 returns-2 c =
