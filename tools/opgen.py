@@ -1,5 +1,6 @@
 #!/usr/bin/env python3
 """opgen.py CRATE OPERATION: writes crates/CRATE/proofs/OPERATION/Proof.antt, the walk by hand of a public operation over edge records.
+opgen.py --check: whether each such file is what the script writes; exit status 1 where one is not.
 
 The operation's shape is fixed, and read from crates/CRATE/src/lib.rt; what it promises is read from tools/ops/CRATE/OPERATION.op.
 tools/README.md says both. Run it again whenever the operation's parameters, its core or its promise change: the file is written, not mended.
@@ -816,16 +817,33 @@ class Operation:
         return "\n".join(out) + "\n"
 
 
+def laid_out(text):
+    """The text as `rt fmt` lays it out."""
+    return "\n".join(line.rstrip() for line in text.split("\n") if not line or line.strip())
+
+
 def main():
-    if len(sys.argv) != 3:
-        raise SystemExit(__doc__)
     root = os.path.dirname(HERE)
-    op = Operation(sys.argv[1], sys.argv[2], root)
-    folder = os.path.join(root, "crates", op.crate, "proofs", op.name)
-    os.makedirs(folder, exist_ok=True)
-    with open(os.path.join(folder, "Proof.antt"), "w", encoding="utf-8") as f:
-        f.write(op.proof())
-    print(f"{folder}/Proof.antt: {op.locals} locals")
+    check = sys.argv[1:] == ["--check"]
+    if not check and len(sys.argv) != 3:
+        raise SystemExit(__doc__)
+    ops = os.path.join(root, "tools", "ops")
+    todo = [tuple(sys.argv[1:])] if not check else [(c, f[:-3]) for c in sorted(os.listdir(ops)) for f in sorted(os.listdir(os.path.join(ops, c)))]
+    stale = 0
+    for crate, name in todo:
+        op = Operation(crate, name, root)
+        path = os.path.join(root, "crates", crate, "proofs", name, "Proof.antt")
+        text = laid_out(op.proof())
+        if check:
+            same = os.path.exists(path) and open(path, encoding="utf-8").read() == text
+            stale += not same
+            print(f"{crate} {name}: " + ("as written" if same else "NOT as the script writes it"))
+            continue
+        os.makedirs(os.path.dirname(path), exist_ok=True)
+        with open(path, "w", encoding="utf-8") as f:
+            f.write(text)
+        print(f"crates/{crate}/proofs/{name}/Proof.antt: {op.locals} locals")
+    sys.exit(1 if stale else 0)
 
 
 if __name__ == "__main__":

@@ -209,7 +209,6 @@ module _ {M : Type 1} (𝓤 : URA M) (H : Heap 𝓤) (A : Atoms 𝓤) (W : Given
         split ! $ move ! (1 ∷ []) $ split ! $ move ! (1 ∷ []) $ split ! $ move ! (1 ∷ []) $ drop ! $ move ! (1 ∷ []) $ lft-end ! tt $ move ! (0 ∷ 6 ∷ 4 ∷ []) $ use3 W (later (‵ (partAt (Array u32 E.room) fullShare (zs .1 .0) l₇ 0))) (L.array-back 𝓤 H A W (named 1) E.room (ν ∷ []) l₇ room-n δ (zs .1 .0)) $ await ! tt $
         move ! (1 ∷ []) $ lft-end ! tt $ move ! (0 ∷ 4 ∷ 3 ∷ []) $ use3 W (later (‵ (partAt (Array u32 E.room) fullShare (zs .1 .1 .0) l₈ 0))) (L.array-back 𝓤 H A W (named 1) E.room (ν′ ∷ []) l₈ room-n δ′ (zs .1 .1 .0)) $ await ! tt $
         -- [_8; _7; κ·edges; p·clocks; k·clocks; k·edges; p·nodes; k·nodes; p·hashes; k·hashes; κ·counts; κ·clocks; κ·nodes; κ·hashes; p·counts; _20; _19; _18; _17; _16; _15; _14; _13; _12; _11; _10; _9; _6; _5; _4; _3; _2; _1; _0]
-
         -- the core
         assigns ! (addr ! (from ! (stop !))) (from ! (stop !)) (init ! 25 refl (tt, tt)) $ assigns ! (agg ! (and-then ! (load ! (from ! (stop !)) (look ! 25 refl)) (and-then ! (L.lit-big ! (record { fits = lit< tt })) (no-more !)))) (from ! (stop !)) (init ! 23 refl (tt, (tt, (record { fits = lit< tt }, tt)))) $
         assigns ! (addr ! (from ! (stop !))) (from ! (stop !)) (init ! 21 refl (tt, tt)) $ assigns ! (agg ! (and-then ! (load ! (from ! (stop !)) (look ! 21 refl)) (and-then ! (L.lit-big ! (record { fits = lit< tt })) (no-more !)))) (from ! (stop !)) (init ! 19 refl (tt, (tt, (record { fits = lit< tt }, tt)))) $
