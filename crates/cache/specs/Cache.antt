@@ -1,7 +1,8 @@
 -- The cached clocks: what caching a node, and throwing the cached clocks away, make of the clock table.
 -- Assumes nothing.
 use mathlib.Core.Path.{_≡_}
-use mathlib.Core.Bool.{Bool, cond, _&&_, _||_}
+use mathlib.Core.Logic.{_↔_}
+use mathlib.Core.Bool.{Bool, true, cond, _&&_, _||_}
 use mathlib.Core.List.{List, [], _∷_, _++_}
 use Prim.Native.Nat.{ℕ, zero, suc, _+_, _*_, _/_, _%_, _≤_, _<_, max}
 use lib.Dec.{eqb, ltb}
@@ -12,7 +13,7 @@ use Rattle.paper.specs.Caching.{left-over, in-turn, cached-to, cached-after}
 use Rattle.tables.specs.Tables.{Tables, changes, actorRoom, entryAt, graph}
 use Rattle.tables.specs.Valid.{Sound}
 use Rattle.walk.specs.Marks.{marked}
-use Rattle.walk.specs.Rows.{cached, Right}
+use Rattle.walk.specs.Rows.{cached, Right, Walkable}
 
 -- the clock table with the clocks of the nodes in use that s has: entry i is entry i % width of row i / width. The other entries stay
 unfoldable pub recached : Tables → (ℕ → Bool) → List ℕ
@@ -83,3 +84,27 @@ pub record RowMerged (from to n : ℕ) (cs cs′ : List ℕ) : Type 0 where
   pub row : (a : ℕ) → a < n → getD cs′ (to + a) 0 ≡ max (getD cs (to + a) 0) (getD cs (from + a) 0)
   pub before : (i : ℕ) → i < to → getD cs′ i 0 ≡ getD cs i 0
   pub past : (i : ℕ) → to + n ≤ i → getD cs′ i 0 ≡ getD cs i 0
+
+-- ---- the check of the cached rows
+
+-- the row of `rows` that starts at `from` is d
+unfoldable pub RowIs : List ℕ → ℕ → List ℕ → Type 0
+RowIs rows from d = (a : ℕ) → a < length d → getD rows (from + a) 0 ≡ getD d a 0
+
+-- row k can be checked: the rows below it are right, a clock has n entries, a row's, and no node is marked
+pub record Checkable (t : Tables) (width n k : ℕ) (marks : List ℕ) : Type 0 where
+  pub walkable : Walkable t width n k
+  pub full : width ≡ n
+  pub known : k < changes t
+  pub room : k ≤ length marks
+  pub clean : (j : ℕ) → getD marks j 0 ≡ 0
+
+-- the clock of node k, and the marks as they were
+pub record NodeClocked (t : Tables) (k n : ℕ) (marks clock′ marks′ : List ℕ) : Type 0 where
+  pub clock-is : clock′ ≡ each-below (clock (graph t) (k ∷ [])) n
+  pub marks-back : marks′ ≡ marks
+
+-- whether row k is right; the marks are as they were
+pub record RowChecked (t : Tables) (k : ℕ) (r : Bool) (marks marks′ : List ℕ) : Type 0 where
+  pub answer : (r ≡ true) ↔ Right t k
+  pub marks-back : marks′ ≡ marks

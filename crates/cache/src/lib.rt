@@ -6,8 +6,9 @@ ghost use Prim.Native.Nat.{ℕ, _+_, _*_, _≤_, _<_, max};
 ghost use lib.ListN.{length, getD, replicate};
 ghost use Rattle.tables.specs.Tables.{tables, graph, changes, actorRoom};
 ghost use Rattle.tables.specs.Valid.{Valid, Sound};
-ghost use Rattle.cache.specs.Cache.{afterCaching, RowMerged, Cachable, Begun, NodeCached, Halfway, LeftCached};
+ghost use Rattle.cache.specs.Cache.{afterCaching, forgotten, RowMerged, Cachable, Begun, NodeCached, Halfway, LeftCached, RowIs, Checkable, NodeClocked, RowChecked};
 ghost use lib.Dec.{ltb};
+ghost use Rattle.walk.specs.Rows.{Right};
 ghost use lib.Seq.{paste};
 
 // The larger of two numbers.
@@ -190,4 +191,176 @@ pub fn cache_clock(
         k,
         &mut marks,
     );
+}
+
+// Throws all cached clocks away: the rows in use become 0.
+pub fn forget(
+    hashes: &[u8],
+    nodes: &[u32],
+    targets: &[u32],
+    nexts: &[u32],
+    clocks: &mut [u32],
+    counts: &[u32],
+)
+    requires { ⌜ Sound (tables (now hashes) (now nodes) (now targets) (now nexts) (now clocks) (now counts)) ⌝ }
+    ensures { λ r. ⌜ now (clocks .exit) ≡ forgotten (tables (now (hashes .entry)) (now (nodes .entry)) (now (targets .entry)) (now (nexts .entry)) (now (clocks .entry)) (now (counts .entry))) ⌝ }
+{
+    let width = tables::actor_room(hashes, clocks);
+    let end = counts[0] as usize * width;
+    walk::clear(&mut clocks[..end]);
+}
+
+// Whether the row of `rows` that starts at `from` is `clock`.
+fn row_is(clock: &[u32], rows: &[u32], from: usize) -> bool
+    requires { ⌜ from + length (now clock) ≤ length (now rows) ⌝ }
+    ensures { λ r. ⌜ (r ≡ true) ↔ RowIs (now (rows .entry)) from (now (clock .entry)) ⌝ }
+{
+    let mut a = 0;
+    while a < clock.len() {
+        if rows[from + a] != clock[a] {
+            return false;
+        }
+        a += 1;
+    }
+    true
+}
+
+// The clock of node `k`, by the rows below it.
+fn node_clock(
+    hashes: &[u8],
+    nodes: &[u32],
+    targets: &[u32],
+    nexts: &[u32],
+    clocks: &[u32],
+    counts: &[u32],
+    width: usize,
+    k: usize,
+    clock: &mut [u32],
+    marks: &mut [u8],
+)
+    requires { ⌜ Checkable (tables (now hashes) (now nodes) (now targets) (now nexts) (now clocks) (now counts)) width (length (now clock)) k (now marks) ⌝ }
+    ensures { λ r. ⌜ NodeClocked (tables (now (hashes .entry)) (now (nodes .entry)) (now (targets .entry)) (now (nexts .entry)) (now (clocks .entry)) (now (counts .entry))) k (length (now (clock .entry))) (now (marks .entry)) (now (clock .exit)) (now (marks .exit)) ⌝ }
+{
+    walk::clear(clock);
+    let actor = nodes[6 * k] as usize;
+    clock[actor] = nodes[6 * k + 1];
+    let first = nodes[6 * k + 4] as usize;
+    walk::mark_links(targets, nexts, first, marks);
+    walk::walk(
+        hashes,
+        nodes,
+        targets,
+        nexts,
+        clocks,
+        counts,
+        width,
+        k,
+        k,
+        clock,
+        marks,
+    );
+}
+
+// Whether row `k` of the clock table is right, where the rows below it are.
+fn row_right(
+    hashes: &[u8],
+    nodes: &[u32],
+    targets: &[u32],
+    nexts: &[u32],
+    clocks: &[u32],
+    counts: &[u32],
+    width: usize,
+    k: usize,
+    clock: &mut [u32],
+    marks: &mut [u8],
+) -> bool
+    requires { ⌜ Checkable (tables (now hashes) (now nodes) (now targets) (now nexts) (now clocks) (now counts)) width (length (now clock)) k (now marks) ⌝ }
+    ensures { λ r. ⌜ RowChecked (tables (now (hashes .entry)) (now (nodes .entry)) (now (targets .entry)) (now (nexts .entry)) (now (clocks .entry)) (now (counts .entry))) k r (now (marks .entry)) (now (marks .exit)) ⌝ }
+{
+    if is_cached(nodes, clocks, width, k) {
+        node_clock(
+            hashes,
+            nodes,
+            targets,
+            nexts,
+            clocks,
+            counts,
+            width,
+            k,
+            clock,
+            marks,
+        );
+        return row_is(clock, clocks, k * width);
+    }
+    walk::clear(clock);
+    row_is(clock, clocks, k * width)
+}
+
+// Whether the rows in use are right, in node order.
+fn cache_right(
+    hashes: &[u8],
+    nodes: &[u32],
+    targets: &[u32],
+    nexts: &[u32],
+    clocks: &[u32],
+    counts: &[u32],
+    width: usize,
+    clock: &mut [u32],
+    marks: &mut [u8],
+) -> bool
+    requires { ⌜ Sound (tables (now hashes) (now nodes) (now targets) (now nexts) (now clocks) (now counts)) × (width ≡ actorRoom (tables (now hashes) (now nodes) (now targets) (now nexts) (now clocks) (now counts))) ⌝ }
+    requires { ⌜ (length (now clock) ≡ width) × (getD (now counts) 0 0 ≤ length (now marks)) ⌝ }
+    requires { ⌜ ((j : ℕ) → getD (now marks) j 0 ≡ 0) ⌝ }
+    ensures { λ r. ⌜ (r ≡ true) ↔ ((k : ℕ) → k < getD (now (counts .entry)) 0 0 → Right (tables (now (hashes .entry)) (now (nodes .entry)) (now (targets .entry)) (now (nexts .entry)) (now (clocks .entry)) (now (counts .entry))) k) ⌝ }
+{
+    let n = counts[0] as usize;
+    let mut k = 0;
+    while k < n {
+        if !row_right(
+            hashes,
+            nodes,
+            targets,
+            nexts,
+            clocks,
+            counts,
+            width,
+            k,
+            clock,
+            marks,
+        ) {
+            return false;
+        }
+        k += 1;
+    }
+    true
+}
+
+// Whether the lent tables are valid.
+pub fn valid(
+    hashes: &[u8],
+    nodes: &[u32],
+    targets: &[u32],
+    nexts: &[u32],
+    clocks: &[u32],
+    counts: &[u32],
+) -> bool
+    ensures { λ r. ⌜ (r ≡ true) ↔ Valid (tables (now (hashes .entry)) (now (nodes .entry)) (now (targets .entry)) (now (nexts .entry)) (now (clocks .entry)) (now (counts .entry))) ⌝ }
+{
+    if !tables::sound(hashes, nodes, targets, nexts, clocks, counts) {
+        return false;
+    }
+    let width = tables::actor_room(hashes, clocks);
+    let mut clock = [0u32; 64];
+    let mut marks = [0u8; 4096];
+    cache_right(
+        hashes,
+        nodes,
+        targets,
+        nexts,
+        clocks,
+        counts,
+        width,
+        &mut clock[..width],
+        &mut marks,
+    )
 }
