@@ -1,0 +1,86 @@
+-- The missing list from the clock of the have-list, and each answer from its condition.
+-- Assumes nothing.
+use mathlib.Core.Path.{_≡_, ap, _∙_}
+use mathlib.Core.List.{List, _++_, map}
+use Prim.Native.Nat.{ℕ, _*_, _-_, _%_, _≤_, _<_}
+use native.Mathlib.Omega.{arith}
+use lib.Dec.{ltb}
+use lib.ListN.{length, take, drop, getD, length-append, length-drop, List·getD-append}
+use borrow.Author.Tests.{eq-eqb, ne-eqb}
+use Rattle.paper.specs.Lists.{pick, each-below, hashAt, hashes-of}
+use Rattle.paper.specs.Text.{flat}
+use Rattle.paper.specs.Graph.{Graph, nodes, clock, above, missing}
+use Rattle.paper.proofs.Bools.{pick-ext}
+use Rattle.paper.proofs.Each.{length-each, getD-each}
+use Rattle.hash.specs.HashLaws.{hash-length}
+use Rattle.tables.specs.Tables.{Tables, changes, actors, actorAt, seqAt, graph}
+use Rattle.tables.specs.Valid.{Valid}
+use Rattle.answers.specs.Answers.{listed, filled}
+use Rattle.answers.specs.Room.{room, actor-low}
+use Rattle.answers.specs.declared.Listed.the-variants.{Done, Malformed}
+use Rattle.questions.specs.Clocks.{clock-entries}
+use Rattle.missing.specs.Missing.{above-at, Within, Entries, missing-hashes, missing-told, missing-filled, shown}
+
+-- ---- the clock of the have-list, in the first entries of a table
+
+pub entries-of : (t : Tables) (have clock : List ℕ) (a : ℕ) → a ≡ actors t → a ≤ length clock → {last : List ℕ} {n : ℕ} → last ≡ each-below (clock-entries (graph t) have) n → n ≡ a → Entries t have clock (last ++ drop (a - 0) clock)
+entries-of t have clock a e l {last} {n} s q =
+    let m = ap length s ∙ length-each (clock-entries (graph t) have) n in
+    record {
+      long = simp (length-append, length-drop) (omega arith);
+      each = λ i b. List·getD-append last (drop (a - 0) clock) 0 i (omega arith) ∙ ap (λ (x : List ℕ). getD x i 0) s ∙ getD-each (clock-entries (graph t) have) n i (omega arith);
+    }
+
+module _ (t : Tables) (v : Valid t) (have clock₀ clock′ : List ℕ) (e : Entries t have clock₀ clock′) where
+  above-is : (k : ℕ) → k < changes t → above-at (t .nodes) clock′ k ≡ above (graph t) (clock (graph t) (nodes (graph t) (hashes-of have))) k
+  unfolding above-at above clock-entries
+  above-is k l = ap (λ (x : ℕ). ltb x (seqAt (t .nodes) k)) (e .each (actorAt (t .nodes) k) (actor-low t v k l))
+
+  pub missing-is : flat (map (hashAt (t .hashes)) (pick (above-at (t .nodes) clock′) (changes t))) ≡ missing-hashes (graph t) have
+  unfolding missing-hashes missing
+  missing-is =
+      ap (λ (l : List ℕ). flat (map (hashAt (t .hashes)) l))
+      (pick-ext (above-at (t .nodes) clock′) (above (graph t) (clock (graph t) (nodes (graph t) (hashes-of have)))) (changes t) above-is)
+
+  pub within : 64 ≤ length clock₀ → Within (t .nodes) (changes t) clock′
+  within l = record { inside = room t v .nodes-in; few = room t v .few; actors = λ k b. let a = actor-low t v k b in let r = room t v .few-actors in let w = e .long in omega arith }
+
+-- ---- each answer
+
+module _ (g : Graph) (have : List ℕ) where
+  pub bad-told : (length have % 32 ≡ 0 → ⊥) → (room : ℕ) → missing-told g have room ≡ Malformed
+  unfolding missing-told
+  bad-told n room = rw (ne-eqb (length have % 32) 0 n)
+
+  pub bad-filled : (length have % 32 ≡ 0 → ⊥) → (out : List ℕ) → missing-filled g have out ≡ out
+  unfolding missing-filled
+  bad-filled n out = rw (ne-eqb (length have % 32) 0 n)
+
+  module _ (e : length have % 32 ≡ 0) where
+    pub empty-told : length have ≡ 0 → (room : ℕ) → missing-told g have room ≡ Done (32 * g .size)
+    unfolding missing-told
+    empty-told z room = rw (eq-eqb (length have % 32) 0 e, eq-eqb (length have) 0 z)
+
+    pub empty-filled : length have ≡ 0 → (out : List ℕ) → missing-filled g have out ≡ out
+    unfolding missing-filled
+    empty-filled z out = rw (eq-eqb (length have % 32) 0 e, eq-eqb (length have) 0 z)
+
+    pub list-told : (length have ≡ 0 → ⊥) → (room : ℕ) → missing-told g have room ≡ listed (missing-hashes g have) room
+    unfolding missing-told
+    list-told n room = rw (eq-eqb (length have % 32) 0 e, ne-eqb (length have) 0 n)
+
+    pub list-filled : (length have ≡ 0 → ⊥) → (out : List ℕ) → missing-filled g have out ≡ filled (missing-hashes g have) out
+    unfolding missing-filled
+    list-filled n out = rw (eq-eqb (length have % 32) 0 e, ne-eqb (length have) 0 n)
+
+pub shown-table : (hs answer have : List ℕ) (len : ℕ) → length have ≡ 0 → shown hs answer have len ≡ take len hs
+unfolding shown
+shown-table hs answer have len e = rw (eq-eqb (length have) 0 e)
+
+pub shown-answer : (hs answer have : List ℕ) (len : ℕ) → (length have ≡ 0 → ⊥) → shown hs answer have len ≡ take len answer
+unfolding shown
+shown-answer hs answer have len n = rw (ne-eqb (length have) 0 n)
+
+-- the hashes of the first n nodes are 32 bytes each
+pub hashes-wide : (hs : List ℕ) (n : ℕ) → 32 * n ≤ length hs → (j : ℕ) → j < n → length (hashAt hs j) ≡ 32
+hashes-wide hs n l j b = hash-length hs j (omega arith)
