@@ -3,3 +3,4 @@ pub mod LoadLaws
 pub mod DoneLaws
 pub mod Accepted
 pub mod Loaded
+pub mod Vectors

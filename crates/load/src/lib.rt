@@ -3,8 +3,8 @@
 // dependencies of all changes as node numbers, one after the other.
 ghost use mathlib.Core.Path.{_≡_};
 ghost use mathlib.Core.List.{[], _++_};
-ghost use Prim.Native.Nat.{ℕ, _+_, _*_, _≤_, _<_};
-ghost use lib.ListN.{length, getD, drop};
+ghost use Prim.Native.Nat.{_+_, _*_, _≤_};
+ghost use lib.ListN.{length, drop};
 ghost use Rattle.paper.specs.Lists.{hashAt};
 ghost use Rattle.paper.specs.Loading.{hashes-at, changes-of};
 ghost use Rattle.tables.specs.Tables.{tables};

@@ -8,9 +8,10 @@ use Prim.Native.Nat.{ℕ, zero, suc, _+_, _/_, _≤_, _<_}
 use native.Mathlib.Nat.{eq-or-lt-of-le}
 use native.Mathlib.Omega.{arith}
 use lib.ListN.{length}
-use Rattle.paper.specs.Lists.{pick, some-below, all-below, every, sameList, lessList, names, enter, ascending, hashAt, hashes-from, hashes-of}
+use Rattle.paper.specs.Lists.{pick, some-below, all-below, every, sameList, names, hashAt, hashes-from, hashes-of}
 use Rattle.paper.specs.Graph.{Graph, wanted, head-nodes, heads}
 use Rattle.paper.proofs.Bools.{by-bool, not-both, same-bool, or-cases, or-left, or-right, and-both, and-fst, and-snd, not-is, is-not, of-some, some-of, of-all, all-of}
+use Rattle.paper.proofs.Ascending.{ascending-names}
 use Rattle.paper.proofs.Hashes.{same-refl, same→eq, eq→same, every-of, of-every}
 
 -- ---- the hashes of a list of bytes
@@ -38,31 +39,6 @@ module _ (h bytes : List ℕ) where
       same-bool (names h (hashes-of bytes)) (some-below (λ i. sameList (hashAt bytes i) h) (length bytes / 32))
       (λ t. let r = named-from (length bytes / 32) 0 t in some-of (λ i. sameList (hashAt bytes i) h) (length bytes / 32) (r .0) (let b = r .2 in omega arith) (r .3))
       (λ t. let r = of-some (λ i. sameList (hashAt bytes i) h) (length bytes / 32) t in from-named (length bytes / 32) 0 (r .0) (omega arith) (let b = r .1 in omega arith) (r .2))
-
--- ---- ascending lists
-
-names-enter : (h x : List ℕ) (xs : List (List ℕ)) → names h (enter x xs) ≡ (sameList x h || names h xs)
-unfolding names enter
-names-enter h x [] = refl
-names-enter h x (y ∷ ys) =
-    by-bool (sameList x y)
-    (λ t. rw (t, same→eq x y t) (twice (sameList y h) (names h ys)))
-    (λ f. by-bool (lessList x y) (λ t. rw (f, t)) (λ g. rw (f, g, names-enter h x ys) (swap (sameList y h) (sameList x h) (names h ys))))
-  where
-    twice : (a b : Bool) → (a || b) ≡ (a || (a || b))
-    twice true b = refl
-    twice false b = refl
-
-    swap : (a b c : Bool) → (a || (b || c)) ≡ (b || (a || c))
-    swap true true c = refl
-    swap true false c = refl
-    swap false true c = refl
-    swap false false c = refl
-
-pub names-ascending : (h : List ℕ) (hs : List (List ℕ)) → names h (ascending hs) ≡ names h hs
-unfolding names ascending
-names-ascending h [] = refl
-names-ascending h (x ∷ xs) = names-enter h x (ascending xs) ∙ ap (λ (b : Bool). sameList x h || b) (names-ascending h xs)
 
 -- ---- the hashes of nodes that are picked
 
@@ -120,7 +96,7 @@ every-bytes bytes p = every-place (hashes-of bytes) (hashAt bytes) (λ i. true) 
 
 pub names-heads : (g : Graph) (h : List ℕ) → names h (heads g) ≡ some-below (λ k. not (wanted g k) && sameList (g .hash k) h) (g .size)
 unfolding heads head-nodes
-names-heads g h = names-ascending h (map (g .hash) (head-nodes g)) ∙ names-picked h (g .hash) (λ k. not (wanted g k)) (g .size)
+names-heads g h = ascending-names h (map (g .hash) (head-nodes g)) ∙ names-picked h (g .hash) (λ k. not (wanted g k)) (g .size)
 
 pub every-head : (g : Graph) (p : List ℕ → Bool) → every p (heads g) ≡ all-below (λ k. not (not (wanted g k)) || p (g .hash k)) (g .size)
 every-head g p = every-place (heads g) (g .hash) (λ k. not (wanted g k)) (g .size) (names-heads g) p
