@@ -1,0 +1,87 @@
+-- `hub_actors::insert_checked` meets its contract: on valid tables it is what `insert_actor` promises, and else nothing changes. Assumes nothing.
+use mathlib.Core.Path.{refl, ap, _∙_}
+use borrow.Author.Tests.{not-true, not-false}
+use denote.Ref.{now}
+use Rattle.laws.specs.Iff.{failed}
+use Rattle.tables.specs.Tables.{Tables, tables}
+use Rattle.tables.specs.Valid.{Valid}
+use Rattle.actors.specs.Actors.{numberOf, inserted, ifDone}
+use Rattle.actors.specs.declared.Numbered.{Numbered}
+use borrow.Author.Needs.{needs}
+use Rattle.hub_actors.proofs.insert_checked.Statement.{statement}
+use Rattle.hub_actors.proofs.insert_checked.Tie as tie
+
+-- what is lent
+abbrev T : tie.Start → Tables
+T s = tables (now (s .args .hashes)) (now (s .args .nodes)) (now (s .args .targets)) (now (s .args .nexts)) (now (s .args .clocks)) (now (s .args .counts))
+
+abbrev begin : tie.After-number → tie.Start
+begin c = c .before .before .before .before .before .before .before .before .before .before .before .before .before .before .before .before .before .before .before .before .before .before
+
+-- the tables are valid once the check is passed
+right : (c : tie.Else1) → Valid (T (c .before .before .before .before .before .before .before .before .before .before .before))
+right c = c .before .valid .ensures .0 (not-false _ (c .if1 .left))
+
+-- src/lib.rt:32:9
+valid-requires : tie.Need-valid-requires
+valid-requires c κs = search needs
+
+-- src/lib.rt:33:9
+same-length : tie.Need-same-length
+same-length c = search needs
+
+-- src/lib.rt:33:9
+same-length-2 : tie.Need-same-length-2
+same-length-2 c = search needs
+
+-- src/lib.rt:33:9
+same-length-3 : tie.Need-same-length-3
+same-length-3 c = search needs
+
+-- src/lib.rt:33:9
+returns : tie.Need-returns
+returns c = record { met = λ v. absurd (failed (c .before .valid .ensures) (not-true _ (c .if1 .taken)) v); unmet = λ _. (refl, refl) }
+
+-- src/lib.rt:35:9
+insert-actor-requires : tie.Need-insert-actor-requires
+insert-actor-requires c κs = right (c .before .before .before)
+
+-- src/lib.rt:36:5
+number-requires : tie.Need-number-requires
+number-requires c κs = search needs
+
+-- src/lib.rt:21:1
+same-length-4 : tie.Need-same-length-4
+same-length-4 c = search needs
+
+-- src/lib.rt:21:1
+same-length-5 : tie.Need-same-length-5
+same-length-5 c = search needs
+
+-- src/lib.rt:21:1
+same-length-6 : tie.Need-same-length-6
+same-length-6 c = search needs
+
+-- src/lib.rt:21:1
+returns-2 : tie.Need-returns-2
+returns-2 c =
+    let o = c .before .before .before .before .before .before .before .insert-actor .ensures in record {
+      met = λ _. (c .number .ensures ∙ ap numberOf (o .0), o .1 ∙ ap (λ (j : Numbered). ifDone j (inserted (T (begin c)) (begin c .args .place)) (T (begin c))) (o .0));
+      unmet = λ w. absurd (w (right (c .before .before .before .before .before .before .before .before .before .before .before)));
+    }
+
+pub insert-checked-spec : {M : Type 1} → statement M
+insert-checked-spec =
+    tie.close
+    (tie.spec
+    valid-requires
+    same-length
+    same-length-2
+    same-length-3
+    returns
+    insert-actor-requires
+    number-requires
+    same-length-4
+    same-length-5
+    same-length-6
+    returns-2)
