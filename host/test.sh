@@ -1,17 +1,18 @@
 #!/usr/bin/env bash
-# Builds the C programs of host/ against the archive and runs the tests. Prints a line a test; exit status 1 where one failed.
+# Makes the archive, builds the C programs of host/ against it and runs the tests. Prints a line a test; exit status 1 where one failed.
 set -euo pipefail
 cd "$(dirname "$0")/.."
 . host/toolchain.sh
 if [ -z "$CC" ]; then
-  echo "host: no C compiler for x86-64 on this machine: not built"
+  echo "host: no C compiler for x86-64 on this machine, so nothing is built"
   exit 0
 fi
+host/archive.sh
 mkdir -p target/host
-rt staticlib session >target/host/staticlib.log 2>&1 || { tail -n 20 target/host/staticlib.log; exit 1; }
-$CC $CFLAGS host/session_test.c target/staticlib/libsession.a -o target/host/session_test
-$CC $CFLAGS host/session.c target/staticlib/libsession.a -o target/host/session
-$RUN target/host/session_test
-if [ -n "$MEMCHECK" ]; then
-  $MEMCHECK target/host/session_test
-fi
+for test in graph_test; do
+  $CC $CFLAGS "host/$test.c" target/libchangegraph.a -o "target/host/$test"
+  $RUN "target/host/$test"
+  if [ -n "$MEMCHECK" ]; then
+    $MEMCHECK "target/host/$test"
+  fi
+done

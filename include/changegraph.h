@@ -1,4 +1,5 @@
-/* The change graph from C. Link libchangegraph.a (x86-64 Linux); no other library is needed and nothing is allocated.
+/* The change graph from C. Link libchangegraph.a, which host/archive.sh makes (x86-64 Linux); no other library is needed
+ * and nothing is allocated.
  *
  * Every function returns one of the numbers below. A slice is a pointer and a length in elements, in this order. The caller lends
  * all memory; slices of one call must not overlap where one of them is written. A pointer is never null: an empty slice has any
@@ -38,17 +39,85 @@ enum {
   CG_COLUMNS_DISAGREE = 18    /* the load columns disagree */
 };
 
-/* The text session: a change list in, its answers out. The session keeps its own graph (256 changes, 1,024 edges, up to 16
- * actors) for the time of the call.
+/* ---- the lent tables of a graph
  *
- * input:   the list, lines that end in LF, of any length.
- * answer:  where the answer lines go. On CG_DONE its first *length bytes are the answer and the bytes past them stay as they were;
- *          on CG_SHORT_BUFFER every byte of it is 0.
- * length:  the answer's length; 0 with CG_SHORT_BUFFER.
+ * N changes, E edges, A actors of room; the lengths set them, at most 4,096, 16,384 and 64. Room above these, or lengths that disagree, is CG_NOT_VALID.
  *
- * Returns CG_DONE, also where the list ends at a line that is bad (the answer's last line then is `bad`, tab, its number), or
- * CG_SHORT_BUFFER exactly if the whole answer is longer than the buffer. */
-uint32_t cg_session(const uint8_t *input, size_t input_len, uint8_t *answer, size_t answer_len, size_t *length);
+ *   hashes   32 N bytes              the hash of change k at 32 k
+ *   nodes    6 N numbers             of change k at 6 k: actor, sequence, max op, op count, first edge + 1 or 0, head (1 or 0)
+ *   edges    E records               target: the change that is depended on; next: the next edge of the list + 1, or 0 at its end
+ *   clocks   N * A numbers           row k: the cached clock of change k, or zeros
+ *   counts   3 numbers               changes, edges, actors in use
+ *
+ * What lies past the used parts is never read, and changes only when it is taken into use. Each function checks all tables that it is lent. */
+
+enum {
+  CG_HUB_CHANGES = 4096,
+  CG_HUB_EDGES = 16384,
+  CG_HUB_ACTORS = 64,
+  CG_BENCH_CHANGES = 256,
+  CG_BENCH_EDGES = 1024,
+  CG_BENCH_ACTORS = 16,
+  CG_HASH = 32,         /* bytes of a hash */
+  CG_NODE = 6,          /* numbers of a node */
+  CG_COUNTS = 3,        /* numbers of the counts */
+  CG_DEPENDENCIES = 32, /* dependencies of one change at most */
+  CG_WAITING = 256,     /* waiting changes at most, and as many in a batch */
+  CG_RECORD = 32 + 5 * 8 + 1024 /* bytes of a waiting change */
+};
+
+typedef struct Edge {
+  uint32_t target;
+  uint32_t next;
+} Edge;
+
+/* All tables at the hub's room, with queue and batch. */
+#define CG_HUB_BYTES \
+  ((size_t)CG_HUB_CHANGES * (CG_HASH + CG_NODE * 4 + CG_HUB_ACTORS * 4) + (size_t)CG_HUB_EDGES * sizeof(Edge) + CG_COUNTS * 4 + 2 * ((size_t)CG_WAITING * CG_RECORD + 4))
+#ifdef __cplusplus
+static_assert(CG_HUB_BYTES <= 2 * 1024 * 1024, "the hub's tables fit 2 MiB");
+#else
+_Static_assert(CG_HUB_BYTES <= 2 * 1024 * 1024, "the hub's tables fit 2 MiB");
+#endif
+
+/* Opens an empty graph for so many actors: sets the counts and nothing else. The tables may hold anything; only their lengths are checked.
+ * CG_DONE, CG_NOT_VALID, CG_NO_ACTOR_ROOM. */
+uint32_t cg_open(const uint8_t *hashes, size_t hashes_len, const uint32_t *nodes, size_t nodes_len, const Edge *edges, size_t edges_len,
+                 const uint32_t *clocks, size_t clocks_len, uint32_t *counts, size_t counts_len, uint64_t actors);
+
+/* Adds a change: its hash, actor, sequence, max op, op count, and the hashes of its dependencies one after the other.
+ * CG_DONE, CG_NOT_VALID, and CG_MALFORMED to CG_NO_EDGE_ROOM in this order. */
+uint32_t cg_add(uint8_t *hashes, size_t hashes_len, uint32_t *nodes, size_t nodes_len, Edge *edges, size_t edges_len, uint32_t *clocks,
+                size_t clocks_len, uint32_t *counts, size_t counts_len, const uint8_t *hash, size_t hash_len, uint64_t actor,
+                uint64_t sequence, uint64_t max_op, uint64_t op_count, const uint8_t *dependencies, size_t dependencies_len);
+
+/* Puts an actor in at a place: numbers from the place on move up by one, in changes and in cached clocks.
+ * CG_DONE, CG_NOT_VALID, CG_NO_ACTOR_ROOM. */
+uint32_t cg_insert_actor(const uint8_t *hashes, size_t hashes_len, uint32_t *nodes, size_t nodes_len, const Edge *edges, size_t edges_len,
+                         uint32_t *clocks, size_t clocks_len, uint32_t *counts, size_t counts_len, uint64_t place);
+
+/* Takes an actor without changes away: the reverse. CG_DONE, CG_NOT_VALID, CG_NO_ACTOR, CG_ACTOR_HAS_CHANGES. */
+uint32_t cg_remove_actor(const uint8_t *hashes, size_t hashes_len, uint32_t *nodes, size_t nodes_len, const Edge *edges, size_t edges_len,
+                         uint32_t *clocks, size_t clocks_len, uint32_t *counts, size_t counts_len, uint64_t place);
+
+/* ---- clocks: an entry for each actor, 0 for nothing. A count above 64 is CG_NOT_VALID, a place not below the count CG_NO_ACTOR. */
+
+typedef struct Clock {
+  uint32_t entries[64];
+  uint32_t count; /* of entries in use */
+} Clock;
+
+/* Enters a sequence where nothing stands or a smaller one; with CG_DONE *rose is 1 where it did (also for 0 over nothing), else 0. */
+uint32_t cg_clock_include(Clock *clock, size_t place, uint32_t sequence, uint32_t *rose);
+
+/* The larger entry at each place that both have, into the first. */
+uint32_t cg_clock_merge(Clock *clock, const Clock *other);
+
+/* With CG_DONE *yes is 1 where no entry of the other is larger, else 0. Clocks of different counts are CG_NOT_VALID. */
+uint32_t cg_clock_covers(const Clock *clock, const Clock *other, uint32_t *yes);
+
+/* The entry becomes 4,294,967,295. */
+uint32_t cg_clock_isolate(Clock *clock, size_t place);
 
 #ifdef __cplusplus
 }

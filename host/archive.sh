@@ -1,0 +1,23 @@
+#!/usr/bin/env bash
+# Makes target/libchangegraph.a: the archives of the crates that C calls, joined into one.
+set -euo pipefail
+cd "$(dirname "$0")/.."
+crates="clocks hub_graph hub_add hub_actors"
+kit="$(dirname "$(readlink -f "$(command -v rt)")")/.."
+ar="$kit/on/$(uname -m)/toolchain/bin/llvm-ar"
+[ -x "$ar" ] || ar=ar
+parts="target/archive"
+rm -rf "$parts"
+mkdir -p "$parts"
+for crate in $crates; do
+  rt staticlib "$crate" >"$parts/$crate.log" 2>&1 || { tail -n 20 "$parts/$crate.log"; exit 1; }
+  mkdir "$parts/$crate"
+  (cd "$parts/$crate" && "$ar" x "../../staticlib/lib$crate.a")
+  for object in "$parts/$crate"/*; do
+    mv "$object" "$parts/$crate.$(basename "$object")"
+  done
+  rmdir "$parts/$crate"
+done
+rm -f target/libchangegraph.a
+"$ar" rcs target/libchangegraph.a "$parts"/*.o
+echo "target/libchangegraph.a: $crates"
