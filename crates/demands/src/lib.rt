@@ -1,0 +1,1 @@
+// No code: what the promises of the public operations come to, as the three demands say it.
