@@ -9,8 +9,7 @@ use lib.ListN.{length, take, getD}
 use Rattle.paper.specs.Lists.{hashes-of}
 use Rattle.paper.specs.Text.{flat}
 use Rattle.paper.specs.Graph.{Graph, nodes, missing}
-use Rattle.tables.specs.Tables.{Tables, actors, actorAt, seqAt, graph}
-use Rattle.questions.specs.Clocks.{clock-entries}
+use Rattle.tables.specs.Tables.{actorAt, seqAt}
 use Rattle.answers.specs.Answers.{whole-list, listed, filled}
 use Rattle.answers.specs.declared.Listed.{Listed}
 use Rattle.answers.specs.declared.Listed.the-variants.{Done, Malformed}
@@ -43,8 +42,3 @@ shown hs answer have len = cond (eqb (length have) 0) (take len hs) (take len an
 pub record Shown (hs answer have : List ℕ) (len : ℕ) : Type 0 where
   pub in-table : length have ≡ 0 → len ≤ length hs
   pub in-answer : (length have ≡ 0 → ⊥) → len ≤ length answer
-
--- the first entries of the clock table are the clock of the have-list
-pub record Entries (t : Tables) (have clock₀ clock : List ℕ) : Type 0 where
-  pub long : length clock ≡ length clock₀
-  pub each : (a : ℕ) → a < actors t → getD clock a 0 ≡ clock-entries (graph t) have a

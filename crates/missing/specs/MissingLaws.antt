@@ -1,35 +1,24 @@
 -- The missing list from the clock of the have-list, and each answer from its condition.
 -- Assumes nothing.
 use mathlib.Core.Path.{_≡_, ap, _∙_}
-use mathlib.Core.List.{List, _++_, map}
-use Prim.Native.Nat.{ℕ, _*_, _-_, _%_, _≤_, _<_}
+use mathlib.Core.List.{List, map}
+use Prim.Native.Nat.{ℕ, _*_, _%_, _≤_, _<_}
 use native.Mathlib.Omega.{arith}
 use lib.Dec.{ltb}
-use lib.ListN.{length, take, drop, getD, length-append, length-drop, List·getD-append}
+use lib.ListN.{length, take}
 use borrow.Author.Tests.{eq-eqb, ne-eqb}
-use Rattle.paper.specs.Lists.{pick, each-below, hashAt, hashes-of}
+use Rattle.paper.specs.Lists.{pick, hashAt, hashes-of}
 use Rattle.paper.specs.Text.{flat}
 use Rattle.paper.specs.Graph.{Graph, nodes, clock, above, missing}
 use Rattle.paper.proofs.Bools.{pick-ext}
-use Rattle.paper.proofs.Each.{length-each, getD-each}
 use Rattle.hash.specs.HashLaws.{hash-length}
-use Rattle.tables.specs.Tables.{Tables, changes, actors, actorAt, seqAt, graph}
+use Rattle.tables.specs.Tables.{Tables, changes, actorAt, seqAt, graph}
 use Rattle.tables.specs.Valid.{Valid}
 use Rattle.answers.specs.Answers.{listed, filled}
 use Rattle.answers.specs.Room.{room, actor-low}
 use Rattle.answers.specs.declared.Listed.the-variants.{Done, Malformed}
-use Rattle.questions.specs.Clocks.{clock-entries}
-use Rattle.missing.specs.Missing.{above-at, Within, Entries, missing-hashes, missing-told, missing-filled, shown}
-
--- ---- the clock of the have-list, in the first entries of a table
-
-pub entries-of : (t : Tables) (have clock : List ℕ) (a : ℕ) → a ≡ actors t → a ≤ length clock → {last : List ℕ} {n : ℕ} → last ≡ each-below (clock-entries (graph t) have) n → n ≡ a → Entries t have clock (last ++ drop (a - 0) clock)
-entries-of t have clock a e l {last} {n} s q =
-    let m = ap length s ∙ length-each (clock-entries (graph t) have) n in
-    record {
-      long = simp (length-append, length-drop) (omega arith);
-      each = λ i b. List·getD-append last (drop (a - 0) clock) 0 i (omega arith) ∙ ap (λ (x : List ℕ). getD x i 0) s ∙ getD-each (clock-entries (graph t) have) n i (omega arith);
-    }
+use Rattle.questions.specs.Clocks.{clock-entries, Entries}
+use Rattle.missing.specs.Missing.{above-at, Within, missing-hashes, missing-told, missing-filled, shown}
 
 module _ (t : Tables) (v : Valid t) (have clock₀ clock′ : List ℕ) (e : Entries t have clock₀ clock′) where
   above-is : (k : ℕ) → k < changes t → above-at (t .nodes) clock′ k ≡ above (graph t) (clock (graph t) (nodes (graph t) (hashes-of have))) k

@@ -9,7 +9,7 @@ ghost use Rattle.paper.specs.Text.{flat};
 ghost use Rattle.tables.specs.Tables.{tables, graph};
 ghost use Rattle.tables.specs.Valid.{Valid};
 ghost use Rattle.answers.specs.Answers.{listed, filled};
-ghost use Rattle.missing.specs.Missing.{above-at, Within, Entries, missing-told, missing-filled, Shown, shown};
+ghost use Rattle.missing.specs.Missing.{above-at, Within, missing-told, missing-filled, Shown, shown};
 use answers::Listed;
 
 // Is node k's sequence above its actor's entry?
@@ -60,34 +60,6 @@ fn above_into(hashes: &[u8], nodes: &[u32], n: usize, clock: &[u32], out: &mut [
     Listed::Done(c)
 }
 
-// The clock of the have-list, into the first entries of `clock`.
-fn have_clock(
-    hashes: &[u8],
-    nodes: &[u32],
-    targets: &[u32],
-    nexts: &[u32],
-    clocks: &[u32],
-    counts: &[u32],
-    have: &[u8],
-    clock: &mut [u32],
-)
-    requires { ⌜ Valid (tables (now hashes) (now nodes) (now targets) (now nexts) (now clocks) (now counts)) ⌝ }
-    requires { ⌜ 64 ≤ length (now clock) ⌝ }
-    ensures { λ _. ⌜ Entries (tables (now (hashes .entry)) (now (nodes .entry)) (now (targets .entry)) (now (nexts .entry)) (now (clocks .entry)) (now (counts .entry))) (now (have .entry)) (now (clock .entry)) (now (clock .exit)) ⌝ }
-{
-    let a = counts[2] as usize;
-    questions::clock_into(
-        hashes,
-        nodes,
-        targets,
-        nexts,
-        clocks,
-        counts,
-        have,
-        &mut clock[0..a],
-    );
-}
-
 // The missing list for a have-list. Where the have-list is empty it is the table itself: nothing is written, and 15 is not given.
 pub fn get_hashes(
     hashes: &[u8],
@@ -111,7 +83,7 @@ pub fn get_hashes(
         return Listed::Done(32 * n);
     }
     let mut clock = [0u32; 64];
-    have_clock(
+    questions::list_clock(
         hashes,
         nodes,
         targets,

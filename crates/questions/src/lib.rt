@@ -9,7 +9,7 @@ ghost use Rattle.tables.specs.Valid.{Valid};
 ghost use Rattle.walk.specs.Marks.{marked};
 ghost use Rattle.answers.specs.AnswerLaws.{Holds};
 ghost use Rattle.questions.specs.Known.{KnownMarks};
-ghost use Rattle.questions.specs.Clocks.{clock-entries, clock-told, clock-filled};
+ghost use Rattle.questions.specs.Clocks.{clock-entries, Entries, clock-told, clock-filled};
 use answers::Listed;
 use hash::Found;
 
@@ -123,6 +123,34 @@ pub fn clock_into(
         counts,
         &starts[0..c],
         clock,
+    );
+}
+
+// The clock of the listed hashes, into the first entries of `clock`, an entry for each actor.
+pub fn list_clock(
+    hashes: &[u8],
+    nodes: &[u32],
+    targets: &[u32],
+    nexts: &[u32],
+    clocks: &[u32],
+    counts: &[u32],
+    list: &[u8],
+    clock: &mut [u32],
+)
+    requires { ⌜ Valid (tables (now hashes) (now nodes) (now targets) (now nexts) (now clocks) (now counts)) ⌝ }
+    requires { ⌜ 64 ≤ length (now clock) ⌝ }
+    ensures { λ _. ⌜ Entries (tables (now (hashes .entry)) (now (nodes .entry)) (now (targets .entry)) (now (nexts .entry)) (now (clocks .entry)) (now (counts .entry))) (now (list .entry)) (now (clock .entry)) (now (clock .exit)) ⌝ }
+{
+    let a = counts[2] as usize;
+    clock_into(
+        hashes,
+        nodes,
+        targets,
+        nexts,
+        clocks,
+        counts,
+        list,
+        &mut clock[0..a],
     );
 }
 

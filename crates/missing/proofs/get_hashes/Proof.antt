@@ -23,10 +23,10 @@ returns-2 : tie.Need-returns-2
 returns-2 c = let s = c .before .before .before .before .before .before .before .before .before .before .before in (sym (empty-told (graph (T s)) (now (s .args .have)) (c .before .before .if1 .left) (c .if2 .taken) _), sym (empty-filled (graph (T s)) (now (s .args .have)) (c .before .before .if1 .left) (c .if2 .taken) _))
 
 above-into-requires : tie.Need-above-into-requires
-above-into-requires c κs = let s = c .before .before .before .before .before .before .before .before .before .before .before .before .before .before .before .before in (within (T s) (s .pre) (now (s .args .have)) _ _ (c .before .before .before .have-clock .ensures) (omega arith), room (T s) (s .pre) .hashes-in)
+above-into-requires c κs = let s = c .before .before .before .before .before .before .before .before .before .before .before .before .before .before .before .before in (within (T s) (s .pre) (now (s .args .have)) _ _ (c .before .before .before .list-clock .ensures) (omega arith), room (T s) (s .pre) .hashes-in)
 
 returns-3 : tie.Need-returns-3
-returns-3 c = let s = c .before .before .before .before .before .before .before .before .before .before .before .before .before .before .before .before .before .before .before in let m = missing-is (T s) (s .pre) (now (s .args .have)) _ _ (c .before .before .before .before .before .before .have-clock .ensures) in (
+returns-3 c = let s = c .before .before .before .before .before .before .before .before .before .before .before .before .before .before .before .before .before .before .before in let m = missing-is (T s) (s .pre) (now (s .args .have)) _ _ (c .before .before .before .before .before .before .list-clock .ensures) in (
   c .before .before .above-into .ensures .0 ∙ ap (λ (x : List ℕ). listed x (length (now (s .args .out)))) m ∙ sym (list-told (graph (T s)) (now (s .args .have)) (c .before .before .before .before .before .before .before .before .before .before .if1 .left) (c .before .before .before .before .before .before .before .before .if2 .left) _),
   c .before .before .above-into .ensures .1 ∙ ap (λ (x : List ℕ). filled x (now (s .args .out))) m ∙ sym (list-filled (graph (T s)) (now (s .args .have)) (c .before .before .before .before .before .before .before .before .before .before .if1 .left) (c .before .before .before .before .before .before .before .before .if2 .left) _),
 )

@@ -1,0 +1,2 @@
+pub mod OpClocks
+pub mod OpClockLaws
