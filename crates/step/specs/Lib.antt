@@ -2,3 +2,9 @@ pub mod Added
 pub mod AddedLaws
 pub mod Step
 pub mod StepLaws
+pub mod Lines
+pub mod ListLaws
+pub mod OwnerLaws
+pub mod HeadsLaws
+pub mod ClockLaws
+pub mod MissingLaws

@@ -3,9 +3,11 @@ ghost use mathlib.Core.Path.{_≡_};
 ghost use mathlib.Core.List.{List, [], _∷_};
 ghost use Prim.Native.Nat.{_≤_};
 ghost use lib.ListN.{length};
+ghost use Prim.Native.Nat.{_%_};
+ghost use Rattle.paper.specs.Lists.{hashes-of};
 ghost use Rattle.paper.specs.Adding.{judged};
-ghost use Rattle.paper.specs.Command.{addWord};
-ghost use Rattle.paper.specs.Session.{answerLine, verdictText};
+ghost use Rattle.paper.specs.Command.{addWord, heads, clock, missing, owner};
+ghost use Rattle.paper.specs.Session.{answerLine, verdictText, answer};
 ghost use Rattle.tables.specs.Tables.{tables};
 ghost use Rattle.tables.specs.Valid.{Valid};
 ghost use Rattle.judge.specs.Judge.{change, verdict};
@@ -13,6 +15,10 @@ ghost use Rattle.judge.specs.Hub.{hub};
 ghost use Rattle.graph.specs.Place.{added};
 ghost use Rattle.reply.specs.Said.{Said};
 ghost use Rattle.step.specs.Added.{missingOf, Named, judgedText};
+ghost use Rattle.step.specs.Step.{Bench};
+ghost use Rattle.step.specs.Lines.{countOf};
+use answers::Listed;
+use hash::Found;
 use hash::Missing;
 use judge::Judged;
 use print::Put;
@@ -87,4 +93,127 @@ pub fn add_line(
         deps,
     );
     put_judged(out, at, j, deps)
+}
+
+// An `owner` line: the hash of the change that owns the op, or 14.
+pub fn owner_line(
+    hashes: &[u8],
+    nodes: &[u32],
+    targets: &[u32],
+    nexts: &[u32],
+    clocks: &[u32],
+    counts: &[u32],
+    actor: u64,
+    counter: u64,
+    out: &mut [u8],
+    at: usize,
+) -> Put
+    requires { ⌜ Valid (tables (now hashes) (now nodes) (now targets) (now nexts) (now clocks) (now counts)) ⌝ }
+    requires { ⌜ at ≤ length (now out) ⌝ }
+    ensures { λ r. ⌜ Said (answer (hub (tables (now (hashes .entry)) (now (nodes .entry)) (now (targets .entry)) (now (nexts .entry)) (now (clocks .entry)) (now (counts .entry)))) (owner actor counter)) at r (now (out .entry)) (now (out .exit)) ⌝ }
+{
+    let n = counts[0] as usize;
+    match owner::owner_at(nodes, n, actor, counter) {
+        Found::At(k) => {
+            let p = 32 * k;
+            let e = p + 32;
+            reply::put_owner(out, at, &hashes[p..e])
+        }
+        Found::Unknown => reply::put_no_owner(out, at),
+    }
+}
+
+// How many bytes of an answer were listed; nothing at a refusal.
+fn count_of(l: Listed) -> usize
+    ensures { λ r. ⌜ r ≡ countOf l ⌝ }
+{
+    match l {
+        Listed::Done(n) => n,
+        Listed::Malformed => 0,
+        Listed::NotFound => 0,
+        Listed::NoOwner => 0,
+        Listed::Short => 0,
+    }
+}
+
+// A `heads` line: the heads, ascending. At most 256 changes are lent, so the list has room for all of them.
+pub fn heads_line(
+    hashes: &[u8],
+    nodes: &[u32],
+    targets: &[u32],
+    nexts: &[u32],
+    clocks: &[u32],
+    counts: &[u32],
+    out: &mut [u8],
+    at: usize,
+) -> Put
+    requires { ⌜ Valid (tables (now hashes) (now nodes) (now targets) (now nexts) (now clocks) (now counts)) × Bench (hub (tables (now hashes) (now nodes) (now targets) (now nexts) (now clocks) (now counts))) ⌝ }
+    requires { ⌜ at ≤ length (now out) ⌝ }
+    ensures { λ r. ⌜ Said (answer (hub (tables (now (hashes .entry)) (now (nodes .entry)) (now (targets .entry)) (now (nexts .entry)) (now (clocks .entry)) (now (counts .entry)))) heads) at r (now (out .entry)) (now (out .exit)) ⌝ }
+{
+    let mut list = [0u8; 8192];
+    let n = count_of(heads::heads(hashes, nodes, targets, nexts, clocks, counts, &mut list));
+    reply::put_heads(out, at, &list, n / 32)
+}
+
+// A `clock` line: the clock of the listed hashes, an entry for each actor.
+pub fn clock_line(
+    hashes: &[u8],
+    nodes: &[u32],
+    targets: &[u32],
+    nexts: &[u32],
+    clocks: &[u32],
+    counts: &[u32],
+    list: &[u8],
+    out: &mut [u8],
+    at: usize,
+) -> Put
+    requires { ⌜ Valid (tables (now hashes) (now nodes) (now targets) (now nexts) (now clocks) (now counts)) × Bench (hub (tables (now hashes) (now nodes) (now targets) (now nexts) (now clocks) (now counts))) ⌝ }
+    requires { ⌜ at ≤ length (now out) ⌝ }
+    ensures { λ r. ⌜ Said (answer (hub (tables (now (hashes .entry)) (now (nodes .entry)) (now (targets .entry)) (now (nexts .entry)) (now (clocks .entry)) (now (counts .entry)))) (clock (hashes-of (now (list .entry))))) at r (now (out .entry)) (now (out .exit)) ⌝ }
+{
+    let a = counts[2] as usize;
+    let mut clock = [0u32; 16];
+    questions::clock_into(
+        hashes,
+        nodes,
+        targets,
+        nexts,
+        clocks,
+        counts,
+        list,
+        &mut clock[0..a],
+    );
+    reply::put_clock(out, at, &clock[0..a])
+}
+
+// A `missing` line: what is missing to who has the listed hashes. With none listed that is the table of hashes itself.
+pub fn missing_line(
+    hashes: &[u8],
+    nodes: &[u32],
+    targets: &[u32],
+    nexts: &[u32],
+    clocks: &[u32],
+    counts: &[u32],
+    list: &[u8],
+    out: &mut [u8],
+    at: usize,
+) -> Put
+    requires { ⌜ Valid (tables (now hashes) (now nodes) (now targets) (now nexts) (now clocks) (now counts)) × Bench (hub (tables (now hashes) (now nodes) (now targets) (now nexts) (now clocks) (now counts))) ⌝ }
+    requires { ⌜ (length (now list) % 32 ≡ 0) × (at ≤ length (now out)) ⌝ }
+    ensures { λ r. ⌜ Said (answer (hub (tables (now (hashes .entry)) (now (nodes .entry)) (now (targets .entry)) (now (nexts .entry)) (now (clocks .entry)) (now (counts .entry)))) (missing (hashes-of (now (list .entry))))) at r (now (out .entry)) (now (out .exit)) ⌝ }
+{
+    let mut answer = [0u8; 8192];
+    let n = count_of(missing::get_hashes(
+        hashes,
+        nodes,
+        targets,
+        nexts,
+        clocks,
+        counts,
+        list,
+        &mut answer,
+    ));
+    let shown = missing::missing_shown(hashes, &answer, list, n);
+    reply::put_missing(out, at, shown, n / 32)
 }

@@ -10,14 +10,15 @@ use lib.ListN.{length, take, drop}
 use borrow.Author.Tests.{lt-ltb, le-ltb, ltb-true, ltb-false}
 use Rattle.paper.specs.Lists.{first-below}
 use Rattle.paper.specs.Text.{digitsOf, hexOf}
-use Rattle.paper.specs.Graph.{owner}
-use Rattle.paper.specs.Command.{ownerWord}
-use Rattle.paper.specs.Session.{answerLine, ownerText}
+use Rattle.paper.specs.Graph.{owner as owning}
+use Rattle.paper.specs.Command.{ownerWord, owner}
+use Rattle.paper.specs.Session.{answerLine, ownerText, answer}
 use Rattle.hash.specs.declared.Found.{Found}
 use Rattle.hash.specs.declared.Found.the-variants.{At, Unknown}
 use Rattle.tables.specs.Tables.{Tables, changes, graph}
 use Rattle.tables.specs.Valid.{Valid}
 use Rattle.tables.specs.Node.{foundAs}
+use Rattle.judge.specs.Hub.{hub}
 use Rattle.owner.specs.Owns.{owns-at, owner-is}
 use Rattle.print.specs.HexLaws.{node-part}
 use Rattle.print.specs.declared.Put.{Put}
@@ -49,17 +50,17 @@ module _ (t : Tables) (a c : ℕ) where
   module _ (at : ℕ) (r : Put) (out₀ out₁ : List ℕ) where
     pub said-owner : (k : ℕ) → foundAs (changes t) (first-below (owns-at (t .nodes) a c) (changes t)) ≡ At k
         → Said (answerLine ownerWord (hexOf (take (32 * k + 32 - 32 * k) (drop (32 * k) (t .hashes))))) at r out₀ out₁
-        → Said (answerLine ownerWord (ownerText (graph t) (owner (graph t) a c))) at r out₀ out₁
-    unfolding ownerText
+        → Said (answer (hub t) (owner a c)) at r out₀ out₁
+    unfolding answer ownerText
     said-owner k e w =
         let f = found-at (changes t) (first-below (owns-at (t .nodes) a c) (changes t)) k e in
-        let q : owner (graph t) a c ≡ k = sym (owner-is t a c) ∙ f .0 in
+        let q : owning (graph t) a c ≡ k = sym (owner-is t a c) ∙ f .0 in
         rw (q, lt-ltb k (changes t) (omega (arith, f .0, f .1))) (rw (node-part (t .hashes) k) at w)
 
     pub said-no-owner : foundAs (changes t) (first-below (owns-at (t .nodes) a c) (changes t)) ≡ Unknown
         → Said (answerLine ownerWord (digitsOf 14)) at r out₀ out₁
-        → Said (answerLine ownerWord (ownerText (graph t) (owner (graph t) a c))) at r out₀ out₁
-    unfolding ownerText
+        → Said (answer (hub t) (owner a c)) at r out₀ out₁
+    unfolding answer ownerText
     said-no-owner e w =
         let l = found-none (changes t) (first-below (owns-at (t .nodes) a c) (changes t)) e in
         rw (← owner-is t a c, le-ltb (first-below (owns-at (t .nodes) a c) (changes t)) (changes t) l) w
