@@ -1,0 +1,199 @@
+// The queue from C: taking a batch over, the questions, and dropping an actor's branch. Each function answers the paper's number of what the operation answers.
+// A yes or no, and how many records are handed out, are told in a lent place, which every number but 0 leaves as it was.
+ghost use mathlib.Core.Path.{_≡_};
+ghost use lib.Dec.{eqb};
+ghost use Rattle.paper.specs.Queue.{has-actor-seq};
+ghost use Rattle.ready.specs.Tables.{queueOf};
+ghost use Rattle.waiting.specs.Valid.{Valid, waiting};
+ghost use Rattle.queue.specs.Hand.{handedAs, HandedTo, numberOf as numberOfHanded};
+ghost use Rattle.queue.specs.declared.Handed.the-variants.{NotValid as HandedNot};
+ghost use Rattle.queue.specs.Asked.{asked as askedAs, askedHash, listedAs, ListedTo, numberOf as numberOfAsked, numberOfList};
+ghost use Rattle.queue.specs.declared.Asked.the-variants.{NotValid as AskedNot};
+ghost use Rattle.queue.specs.declared.Listed.the-variants.{NotValid as ListedNot};
+ghost use Rattle.branch.specs.Branch.{RemovedTo, numberOf as numberOfRemoved};
+ghost use Rattle.branch.specs.declared.Removed.the-variants.{Done as RemovedDone, NotValid as RemovedNot};
+ghost use Rattle.places.specs.Places.{Numbered};
+ghost use Rattle.hub_queue.specs.Told.{yesIn, countIn};
+use branch::Removed;
+use places::tell;
+use queue::Asked;
+use queue::Handed;
+use queue::Listed;
+
+fn handed(a: Handed) -> u32
+    ensures { λ r. ⌜ r ≡ numberOfHanded a ⌝ }
+{
+    match a {
+        Handed::Done => 0,
+        Handed::NotValid => 1,
+        Handed::Clash => 16,
+        Handed::Full => 17,
+    }
+}
+
+fn removed(a: Removed) -> u32
+    ensures { λ r. ⌜ r ≡ numberOfRemoved a ⌝ }
+{
+    match a {
+        Removed::Done => 0,
+        Removed::NotValid => 1,
+    }
+}
+
+fn asked(a: Asked) -> u32
+    ensures { λ r. ⌜ r ≡ numberOfAsked a ⌝ }
+{
+    match a {
+        Asked::Yes => 0,
+        Asked::No => 0,
+        Asked::NotValid => 1,
+        Asked::Malformed => 2,
+    }
+}
+
+fn listed(a: Listed) -> u32
+    ensures { λ r. ⌜ r ≡ numberOfList a ⌝ }
+{
+    match a {
+        Listed::All(_) => 0,
+        Listed::Short => 15,
+        Listed::NotValid => 1,
+    }
+}
+
+// Tells yes or no.
+fn tell_yes(a: Asked, told: &mut [u64])
+    ensures { λ r. ⌜ now (told .exit) ≡ yesIn a (now (told .entry)) ⌝ }
+{
+    match a {
+        Asked::Yes => tell(told, 1),
+        Asked::No => tell(told, 0),
+        Asked::NotValid => {}
+        Asked::Malformed => {}
+    }
+}
+
+// Tells how many.
+fn tell_count(a: Listed, told: &mut [u64])
+    ensures { λ r. ⌜ now (told .exit) ≡ countIn a (now (told .entry)) ⌝ }
+{
+    match a {
+        Listed::All(n) => tell(told, n as u64),
+        Listed::Short => {}
+        Listed::NotValid => {}
+    }
+}
+
+// Hands a batch over to a queue: 1, 16, 17, or 0 and all its changes stand after the others and the batch is empty.
+#[no_mangle]
+pub extern "C" fn cg_hand_over(
+    hashes: &mut [u8],
+    numbers: &mut [u64],
+    deps: &mut [u8],
+    count: &mut [u32],
+    bhashes: &[u8],
+    bnumbers: &[u64],
+    bdeps: &[u8],
+    bcount: &mut [u32],
+) -> u32
+    ensures { λ r. ⌜ Numbered numberOfHanded (Valid (now (hashes .entry)) (now (numbers .entry)) (now (deps .entry)) (now (count .entry)) × Valid (now (bhashes .entry)) (now (bnumbers .entry)) (now (bdeps .entry)) (now (bcount .entry))) (handedAs (now (hashes .entry)) (now (numbers .entry)) (now (count .entry)) (now (bhashes .entry)) (now (bnumbers .entry)) (now (bcount .entry))) HandedNot
+        (λ a. HandedTo a (now (hashes .entry)) (now (numbers .entry)) (now (deps .entry)) (now (count .entry)) (now (bhashes .entry)) (now (bnumbers .entry)) (now (bdeps .entry)) (now (bcount .entry)) (now (hashes .exit)) (now (numbers .exit)) (now (deps .exit)) (now (count .exit)) (now (bcount .exit))) r ⌝ }
+{
+    handed(queue::hand_over(
+        hashes,
+        numbers,
+        deps,
+        count,
+        bhashes,
+        bnumbers,
+        bdeps,
+        bcount,
+    ))
+}
+
+// Drops the actor's changes at or after the sequence, and all waiting ones that depend on them: 1 or 0.
+#[no_mangle]
+pub extern "C" fn cg_remove_actor_branch_from(
+    hashes: &mut [u8],
+    numbers: &mut [u64],
+    deps: &mut [u8],
+    count: &mut [u32],
+    key: u64,
+    from: u64,
+) -> u32
+    ensures { λ r. ⌜ Numbered numberOfRemoved (Valid (now (hashes .entry)) (now (numbers .entry)) (now (deps .entry)) (now (count .entry))) RemovedDone RemovedNot
+        (λ a. RemovedTo a (now (hashes .entry)) (now (numbers .entry)) (now (deps .entry)) (now (count .entry)) key from (now (hashes .exit)) (now (numbers .exit)) (now (deps .exit)) (now (count .exit))) r ⌝ }
+{
+    removed(branch::remove_actor_branch_from(hashes, numbers, deps, count, key, from))
+}
+
+// Waits nothing? 1 or 0.
+#[no_mangle]
+pub extern "C" fn cg_queue_is_empty(
+    hashes: &[u8],
+    numbers: &[u64],
+    deps: &[u8],
+    count: &[u32],
+    told: &mut [u64],
+) -> u32
+    ensures { λ r. ⌜ Numbered numberOfAsked (Valid (now (hashes .entry)) (now (numbers .entry)) (now (deps .entry)) (now (count .entry))) (askedAs (eqb (waiting (now (count .entry))) 0)) AskedNot (λ a. now (told .exit) ≡ yesIn a (now (told .entry))) r ⌝ }
+{
+    let a = queue::is_empty(hashes, numbers, deps, count);
+    tell_yes(a, told);
+    asked(a)
+}
+
+// Has a waiting change the hash? 1, 2 or 0.
+#[no_mangle]
+pub extern "C" fn cg_queue_has_hash(
+    hashes: &[u8],
+    numbers: &[u64],
+    deps: &[u8],
+    count: &[u32],
+    hash: &[u8],
+    told: &mut [u64],
+) -> u32
+    ensures { λ r. ⌜ Numbered numberOfAsked (Valid (now (hashes .entry)) (now (numbers .entry)) (now (deps .entry)) (now (count .entry))) (askedHash (queueOf (now (hashes .entry)) (now (numbers .entry)) (now (deps .entry)) (waiting (now (count .entry)))) (now (hash .entry))) AskedNot (λ a. now (told .exit) ≡ yesIn a (now (told .entry))) r ⌝ }
+{
+    let a = queue::has_hash(hashes, numbers, deps, count, hash);
+    tell_yes(a, told);
+    asked(a)
+}
+
+// Has a waiting change the actor and the sequence? 1 or 0.
+#[no_mangle]
+pub extern "C" fn cg_queue_has_actor_seq(
+    hashes: &[u8],
+    numbers: &[u64],
+    deps: &[u8],
+    count: &[u32],
+    key: u64,
+    seq: u64,
+    told: &mut [u64],
+) -> u32
+    ensures { λ r. ⌜ Numbered numberOfAsked (Valid (now (hashes .entry)) (now (numbers .entry)) (now (deps .entry)) (now (count .entry))) (askedAs (has-actor-seq (queueOf (now (hashes .entry)) (now (numbers .entry)) (now (deps .entry)) (waiting (now (count .entry)))) key seq)) AskedNot (λ a. now (told .exit) ≡ yesIn a (now (told .entry))) r ⌝ }
+{
+    let a = queue::has_actor_seq(hashes, numbers, deps, count, key, seq);
+    tell_yes(a, told);
+    asked(a)
+}
+
+// Gives all waiting records out, in queue order, into the other tables, and tells how many: 1, 15 or 0. The queue stays.
+#[no_mangle]
+pub extern "C" fn cg_queue_iter(
+    hashes: &[u8],
+    numbers: &[u64],
+    deps: &[u8],
+    count: &[u32],
+    thashes: &mut [u8],
+    tnumbers: &mut [u64],
+    tdeps: &mut [u8],
+    told: &mut [u64],
+) -> u32
+    ensures { λ r. ⌜ Numbered numberOfList (Valid (now (hashes .entry)) (now (numbers .entry)) (now (deps .entry)) (now (count .entry))) (listedAs (waiting (now (count .entry))) (now (thashes .entry)) (now (tnumbers .entry)) (now (tdeps .entry))) ListedNot
+        (λ a. ListedTo a (now (hashes .entry)) (now (numbers .entry)) (now (deps .entry)) (now (thashes .entry)) (now (tnumbers .entry)) (now (tdeps .entry)) (now (thashes .exit)) (now (tnumbers .exit)) (now (tdeps .exit)) × (now (told .exit) ≡ countIn a (now (told .entry)))) r ⌝ }
+{
+    let a = queue::iter(hashes, numbers, deps, count, thashes, tnumbers, tdeps);
+    tell_count(a, told);
+    listed(a)
+}
