@@ -674,7 +674,7 @@ class Operation:
         for x in self.says["use"]:
             a("use " + x)
         a("use Rattle.tables.specs.Tables.{tables}\nuse Rattle.edges.specs.Edges as E\nuse Rattle.edges.specs.Edges.{lent, takenTargets, takenNexts, packed}")
-        a("use Rattle.edges.specs.Told.{" + ("Told, told-lent" if changes else "Asked, asked-lent") + "}")
+        a("use Rattle.edges.specs.Told.{" + (("Beyond, Told, told-beside" if "refusal" in self.says else "Told, told-lent") if changes else "Asked, asked-lent") + "}")
         a("use Rattle.edges.specs.declared.Edge.{Edge}\nuse Rattle.edges.proofs.LocalArray as L\nuse Rattle.edges.proofs.Edge as T")
         if changes:
             a("use Rattle.edges.proofs.Shared.{LentShared, shares-slice, shared-back}")
@@ -729,6 +729,10 @@ class Operation:
         lists = "".join(" → List ℕ" for _ in wr)
         if changes:
             cored = lambda ts, xs: f"Told ({R}) (length edges) {self.plain(ts, xs)} r {self.plain('ts′', 'xs′', True)}"
+            law, beside = "told-lent", ""
+            if "refusal" in self.says:
+                told, law, beside = cored, "told-beside", f" ({self.says['refusal']})"
+                cored = lambda ts, xs: f"{told(ts, xs)} × (Beyond (length edges) {self.plain(ts, xs)} → {self.says['refusal']})"
             said = f"({R}) ({self.lent()}) r ({self.lent(True)})"
         else:
             cored = lambda ts, xs: f"Asked ({R}) ({self.says['refusal']}) (length edges) {self.plain(ts, xs)}"
@@ -741,7 +745,7 @@ class Operation:
         rear = lambda prime: " ".join((self.primed(x) if prime else x) for x in ("clocks", "counts"))
         if changes:
             a(f"  said : (r : ℕ) (ts xs {' '.join(wr)} : List ℕ) (edges′ : List Edge) → Unpacked ts xs → Cored r ts xs {' '.join(wr)} → edges′ ≡ packed ts′ xs′ edges → length ts′ ≡ E.room → length xs′ ≡ E.room → length E.blank ≡ E.room → Said r {' '.join(muts)}\n"
-              f"  said r ts xs {' '.join(wr)} edges′ u c p lt lx long =\n      told-lent E.room E.blank long edges ({R}) ({S}) r {front(False)} {rear(False)} {front(True)} ts′ xs′ {rear(True)} edges′ lt lx p\n      {moved}\n")
+              f"  said r ts xs {' '.join(wr)} edges′ u c p lt lx long =\n      {law} E.room E.blank long edges ({R}){beside} ({S}) r {front(False)} {rear(False)} {front(True)} ts′ xs′ {rear(True)} edges′ lt lx p\n      {moved}\n")
         else:
             a(f"  said : (r : ℕ) (ts xs {' '.join(wr)} : List ℕ) → Unpacked ts xs → Cored r ts xs {' '.join(wr)} → length E.blank ≡ E.room → Said r {' '.join(muts)}\n"
               f"  said r ts xs {' '.join(wr)} u c long =\n      asked-lent E.room E.blank long edges ({R}) ({self.says['refusal']}) {front(False)} {rear(False)} ({S})\n      {moved}\n")

@@ -19,6 +19,10 @@ use Rattle.edges.specs.declared.Edge.{Edge}
 abbrev pub cut : ℕ → Tables → Tables
 cut e t = tables (t .hashes) (t .nodes) (take e (t .targets)) (take e (t .nexts)) (t .clocks) (t .counts)
 
+-- a table has no room for e edges
+abbrev pub Beyond : ℕ → Tables → Type 0
+Beyond e t = (length (t .targets) < e) ⊎ (length (t .nexts) < e)
+
 -- R, of the tables before, the number and the tables after, holds of the first e edges, and what lies past them stays.
 -- Where a table has no room for e edges the number is 1 and nothing changes
 pub record Told (R : Tables → ℕ → Tables → Type 0) (e : ℕ) (t : Tables) (r : ℕ) (t′ : Tables) : Type 0 where
@@ -187,6 +191,15 @@ module _ (room : ℕ) (blank : List ℕ) (long : length blank ≡ room) (es : Li
         subst (λ (t : Tables). R t r (lent hs′ ns′ es′ cs′ us′)) (cut-lent f hs ns cs us) (subst (λ (t : Tables). R (cut (length es) (tables hs ns ts xs cs us)) r t) b w)
         )
   ]
+
+  -- one that changes other lent memory too: its core says beside what becomes of that where there is no room for the edges
+  pub told-beside : (R : Tables → ℕ → Tables → Type 0) (refused : Type 0) → ((t : Tables) → room < edgeRoom t → refused → R t 1 t)
+      → (r : ℕ) (hs ns cs us hs′ ns′ ts′ xs′ cs′ us′ : List ℕ) (es′ : List Edge) → length ts′ ≡ room → length xs′ ≡ room → es′ ≡ packed ts′ xs′ es
+      → Told R (length es) (tables hs ns ts xs cs us) r (tables hs′ ns′ ts′ xs′ cs′ us′) × (Beyond (length es) (tables hs ns ts xs cs us) → refused) → R (lent hs ns es cs us) r (lent hs′ ns′ es′ cs′ us′)
+  told-beside R refused refuse r hs ns cs us hs′ ns′ ts′ xs′ cs′ us′ es′ lt lx p c =
+      told-lent (λ (t : Tables) (m : ℕ) (t′ : Tables). (room < edgeRoom t → refused) → R t m t′) (λ t l w. refuse t l (w l)) r hs ns cs us hs′ ns′ ts′ xs′ cs′ us′ es′ lt lx p
+      (record { within = λ a b _. c .0 .within a b; rest-targets = c .0 .rest-targets; rest-nexts = c .0 .rest-nexts; beyond = c .0 .beyond })
+      (λ l. c .1 (inl (let g = targets-room in let h = targets-long es in omega arith)))
 
   -- a question
   pub asked-lent : (Q : Tables → Type 0) (refused : Type 0) (hs ns cs us : List ℕ) → (room < edgeRoom (lent hs ns es cs us) → refused → Q (lent hs ns es cs us))

@@ -1,13 +1,17 @@
 -- What adding a change comes to, of the lent tables before and after.
 -- Assumes nothing.
 use mathlib.Core.Path.{_≡_, refl}
+use mathlib.Core.List.{List}
 use Prim.Native.Nat.{ℕ, _<_}
 use Rattle.paper.specs.Adding.{Change}
 use Rattle.tables.specs.Tables.{Tables, edgeRoom}
 use Rattle.tables.specs.Valid.{Valid}
 use Rattle.judge.specs.Judge.{judged, numberOf}
 use Rattle.graph.specs.Place.{added}
-use Rattle.edges.specs.Told.{Checked, valid-bounding, checked-refused}
+use Rattle.judge.specs.declared.Judged.{Judged}
+use Rattle.judge.specs.declared.Judged.the-variants.{Done, Malformed, Known, Unknown, NoActor, WrongSequence, BadOps, TooManyDeps, NoNodeRoom, NoEdgeRoom}
+use Rattle.edges.specs.Told.{Checked, Answered, valid-bounding, checked-refused, answered-refused}
+use Rattle.places.specs.Places.{toldIn}
 
 -- the number that adding the change gives, and the tables afterwards
 abbrev pub addNumber : Change → Tables → ℕ
@@ -16,9 +20,26 @@ addNumber x t = numberOf (judged t x)
 abbrev pub addTables : Change → Tables → Tables
 addTables x t = added t x
 
--- adding the change to the tables t answers r and leaves t′
-abbrev pub Added : Change → Tables → ℕ → Tables → Type 0
-Added x t r t′ = Checked Valid (addNumber x) (addTables x) t r t′
+-- the place for the unknown dependency afterwards: its position in the list where there is one, and else what stood there
+abbrev pub unknownIn : Judged → List ℕ → List ℕ
+unknownIn (Unknown i) l = toldIn i l
+unknownIn Done l = l
+unknownIn Malformed l = l
+unknownIn Known l = l
+unknownIn NoActor l = l
+unknownIn WrongSequence l = l
+unknownIn BadOps l = l
+unknownIn TooManyDeps l = l
+unknownIn NoNodeRoom l = l
+unknownIn NoEdgeRoom l = l
 
-pub added-refused : (x : Change) (t : Tables) → 16384 < edgeRoom t → Added x t 1 t
-added-refused x t l = checked-refused Valid valid-bounding t l (addNumber x) (addTables x) 1 t (refl, refl)
+-- adding the change to the tables t answers r and leaves t′, and the place for the unknown dependency, which held l, holds l′
+pub record Added (x : Change) (l l′ : List ℕ) (t : Tables) (r : ℕ) (t′ : Tables) : Type 0 where
+  pub tables : Checked Valid (addNumber x) (addTables x) t r t′
+  pub place : Answered Valid (λ (u : Tables). l′ ≡ unknownIn (judged u x) l) (l′ ≡ l) t
+
+pub added-refused : (x : Change) (l l′ : List ℕ) (t : Tables) → 16384 < edgeRoom t → l′ ≡ l → Added x l l′ t 1 t
+added-refused x l l′ t many same = record {
+  tables = checked-refused Valid valid-bounding t many (addNumber x) (addTables x) 1 t (refl, refl);
+  place = answered-refused Valid valid-bounding t many (λ (u : Tables). l′ ≡ unknownIn (judged u x) l) (l′ ≡ l) same;
+}

@@ -8,11 +8,30 @@ ghost use Rattle.tables.specs.Tables.{tables};
 ghost use Rattle.tables.specs.Valid.{Valid};
 ghost use Rattle.judge.specs.Judge.{change};
 ghost use Rattle.edges.specs.Edges.{lent};
-ghost use Rattle.edges.specs.Told.{Told};
-ghost use Rattle.hub_add.specs.Operations.{Added};
+ghost use Rattle.edges.specs.Told.{Told, Beyond};
+ghost use Rattle.hub_add.specs.Operations.{Added, unknownIn};
 use edges::Edge;
+use judge::Judged;
 
-// Judges the change and, where it is accepted, stores it. On every number but 0 nothing changes.
+// Tells the position of the first unknown dependency, where there is one.
+fn tell_unknown(j: Judged, unknown: &mut [u64])
+    ensures { λ r. ⌜ now (unknown .exit) ≡ unknownIn j (now (unknown .entry)) ⌝ }
+{
+    match j {
+        Judged::Unknown(i) => places::tell(unknown, i as u64),
+        Judged::Done => {}
+        Judged::Malformed => {}
+        Judged::Known => {}
+        Judged::NoActor => {}
+        Judged::WrongSequence => {}
+        Judged::BadOps => {}
+        Judged::TooManyDeps => {}
+        Judged::NoNodeRoom => {}
+        Judged::NoEdgeRoom => {}
+    }
+}
+
+// Judges the change and, where it is accepted, stores it. On every number but 0 no table changes; on 4, and then alone, the place for the unknown one does.
 fn add_checked(
     hashes: &mut [u8],
     nodes: &mut [u32],
@@ -26,8 +45,9 @@ fn add_checked(
     max: u64,
     ops: u64,
     deps: &[u8],
+    unknown: &mut [u64],
 ) -> u32
-    ensures { λ r. ⌜ Added (change (now (hash .entry)) actor seq max ops (now (deps .entry))) (tables (now (hashes .entry)) (now (nodes .entry)) (now (targets .entry)) (now (nexts .entry)) (now (clocks .entry)) (now (counts .entry))) r (tables (now (hashes .exit)) (now (nodes .exit)) (now (targets .exit)) (now (nexts .exit)) (now (clocks .exit)) (now (counts .exit))) ⌝ }
+    ensures { λ r. ⌜ Added (change (now (hash .entry)) actor seq max ops (now (deps .entry))) (now (unknown .entry)) (now (unknown .exit)) (tables (now (hashes .entry)) (now (nodes .entry)) (now (targets .entry)) (now (nexts .entry)) (now (clocks .entry)) (now (counts .entry))) r (tables (now (hashes .exit)) (now (nodes .exit)) (now (targets .exit)) (now (nexts .exit)) (now (clocks .exit)) (now (counts .exit))) ⌝ }
 {
     if !cache::valid(hashes, nodes, targets, nexts, clocks, counts) {
         return 1;
@@ -46,6 +66,7 @@ fn add_checked(
         ops,
         deps,
     );
+    tell_unknown(j, unknown);
     judge::number(j)
 }
 
@@ -63,8 +84,10 @@ fn add_told(
     max: u64,
     ops: u64,
     deps: &[u8],
+    unknown: &mut [u64],
 ) -> u32
-    ensures { λ r. ⌜ Told (Added (change (now (hash .entry)) actor seq max ops (now (deps .entry)))) e (tables (now (hashes .entry)) (now (nodes .entry)) (now (targets .entry)) (now (nexts .entry)) (now (clocks .entry)) (now (counts .entry))) r (tables (now (hashes .exit)) (now (nodes .exit)) (now (targets .exit)) (now (nexts .exit)) (now (clocks .exit)) (now (counts .exit))) ⌝ }
+    ensures { λ r. ⌜ Told (Added (change (now (hash .entry)) actor seq max ops (now (deps .entry))) (now (unknown .entry)) (now (unknown .exit))) e (tables (now (hashes .entry)) (now (nodes .entry)) (now (targets .entry)) (now (nexts .entry)) (now (clocks .entry)) (now (counts .entry))) r (tables (now (hashes .exit)) (now (nodes .exit)) (now (targets .exit)) (now (nexts .exit)) (now (clocks .exit)) (now (counts .exit)))
+        × (Beyond e (tables (now (hashes .entry)) (now (nodes .entry)) (now (targets .entry)) (now (nexts .entry)) (now (clocks .entry)) (now (counts .entry))) → now (unknown .exit) ≡ now (unknown .entry)) ⌝ }
 {
     if targets.len() < e {
         return 1;
@@ -85,6 +108,7 @@ fn add_told(
         max,
         ops,
         deps,
+        unknown,
     )
 }
 
@@ -101,8 +125,9 @@ pub extern "C" fn cg_add(
     max: u64,
     ops: u64,
     deps: &[u8],
+    unknown: &mut [u64],
 ) -> u32
-    ensures { λ r. ⌜ Added (change (now (hash .entry)) actor seq max ops (now (deps .entry))) (lent (now (hashes .entry)) (now (nodes .entry)) (now (edges .entry)) (now (clocks .entry)) (now (counts .entry))) r (lent (now (hashes .exit)) (now (nodes .exit)) (now (edges .exit)) (now (clocks .exit)) (now (counts .exit))) ⌝ }
+    ensures { λ r. ⌜ Added (change (now (hash .entry)) actor seq max ops (now (deps .entry))) (now (unknown .entry)) (now (unknown .exit)) (lent (now (hashes .entry)) (now (nodes .entry)) (now (edges .entry)) (now (clocks .entry)) (now (counts .entry))) r (lent (now (hashes .exit)) (now (nodes .exit)) (now (edges .exit)) (now (clocks .exit)) (now (counts .exit))) ⌝ }
 {
     let mut targets = [0u32; 16384];
     let mut nexts = [0u32; 16384];
@@ -122,6 +147,7 @@ pub extern "C" fn cg_add(
         max,
         ops,
         deps,
+        unknown,
     );
     edges::pack(&targets, &nexts, edges);
     r

@@ -47,7 +47,7 @@ use Rattle.hub_add.specs.Operations.{Added, added-refused}
 use Rattle.tables.specs.Tables.{tables}
 use Rattle.edges.specs.Edges as E
 use Rattle.edges.specs.Edges.{lent, takenTargets, takenNexts, packed}
-use Rattle.edges.specs.Told.{Told, told-lent}
+use Rattle.edges.specs.Told.{Beyond, Told, told-beside}
 use Rattle.edges.specs.declared.Edge.{Edge}
 use Rattle.edges.proofs.LocalArray as L
 use Rattle.edges.proofs.Edge as T
@@ -70,7 +70,7 @@ use Rattle.hub_add.proofs.cg_add.Statement as stated
 use Rattle.hub_add.proofs.cg_add.Code as code
 
 abbrev stayed : Stays (f.ended .signature .params) (f.ended .kept)
-stayed = (gave-slice (0 ∷ []) tt (plain (λ _. u8)), (gave-slice (1 ∷ []) tt (plain (λ _. u32)), (gave-slice (2 ∷ []) tt (plain (λ _. T.the-row)), (gave-slice (3 ∷ []) tt (plain (λ _. u32)), (gave-slice (4 ∷ []) tt (plain (λ _. u32)), (stay-none-slice (5 ∷ []) tt (plain (λ _. u8)) yes, (stay-none (λ _. u64) yes, (stay-none (λ _. u64) yes, (stay-none (λ _. u64) yes, (stay-none (λ _. u64) yes, (stay-none-slice (6 ∷ []) tt (plain (λ _. u8)) yes, tt)))))))))))
+stayed = (gave-slice (0 ∷ []) tt (plain (λ _. u8)), (gave-slice (1 ∷ []) tt (plain (λ _. u32)), (gave-slice (2 ∷ []) tt (plain (λ _. T.the-row)), (gave-slice (3 ∷ []) tt (plain (λ _. u32)), (gave-slice (4 ∷ []) tt (plain (λ _. u32)), (stay-none-slice (5 ∷ []) tt (plain (λ _. u8)) yes, (stay-none (λ _. u64) yes, (stay-none (λ _. u64) yes, (stay-none (λ _. u64) yes, (stay-none (λ _. u64) yes, (stay-none-slice (6 ∷ []) tt (plain (λ _. u8)) yes, (gave-slice (7 ∷ []) tt (plain (λ _. u64)), tt))))))))))))
 
 abbrev Unpack : {M : Type 1} (𝓤 : URA M) (H : Heap 𝓤) (A : Atoms 𝓤) (mem : Memory → SProp 𝓤) (run : Routine → Fun 𝓤) → Contract 𝓤
 Unpack 𝓤 H A mem run = tripleOf 𝓤 H A unpack.signature (unpack.spec 𝓤 H A mem run)
@@ -84,7 +84,7 @@ Pack 𝓤 H A mem run = tripleOf 𝓤 H A pack.signature (pack.spec 𝓤 H A mem
 room-n : Room u32 E.room
 room-n = (lit< tt, lit< tt)
 
-module _ {M : Type 1} (𝓤 : URA M) (H : Heap 𝓤) (A : Atoms 𝓤) (W : Given 𝓤 H A) (mem : Memory → SProp 𝓤) (run : Routine → Fun 𝓤) (κ-hashes : Lft) (q-hashes : Share) (b-hashes o-hashes : ℕ) (γ-hashes : GName) (hashes : List ℕ) (hashes-room : Room u8 (length hashes)) (κ-nodes : Lft) (q-nodes : Share) (b-nodes o-nodes : ℕ) (γ-nodes : GName) (nodes : List ℕ) (nodes-room : Room u32 (length nodes)) (κ-edges : Lft) (q-edges : Share) (b-edges o-edges : ℕ) (γ-edges : GName) (edges : List Edge) (edges-room : Room T.the-row (length edges)) (κ-clocks : Lft) (q-clocks : Share) (b-clocks o-clocks : ℕ) (γ-clocks : GName) (clocks : List ℕ) (clocks-room : Room u32 (length clocks)) (κ-counts : Lft) (q-counts : Share) (b-counts o-counts : ℕ) (γ-counts : GName) (counts : List ℕ) (counts-room : Room u32 (length counts)) (κ-hash : Lft) (q-hash : Share) (b-hash o-hash : ℕ) (γ-hash : GName) (hash : List ℕ) (hash-room : Room u8 (length hash)) (actor : ℕ) (actor-fits : actor < 2 ^ 64) (seq : ℕ) (seq-fits : seq < 2 ^ 64) (max : ℕ) (max-fits : max < 2 ^ 64) (ops : ℕ) (ops-fits : ops < 2 ^ 64) (κ-deps : Lft) (q-deps : Share) (b-deps o-deps : ℕ) (γ-deps : GName) (deps : List ℕ) (deps-room : Room u8 (length deps)) where
+module _ {M : Type 1} (𝓤 : URA M) (H : Heap 𝓤) (A : Atoms 𝓤) (W : Given 𝓤 H A) (mem : Memory → SProp 𝓤) (run : Routine → Fun 𝓤) (κ-hashes : Lft) (q-hashes : Share) (b-hashes o-hashes : ℕ) (γ-hashes : GName) (hashes : List ℕ) (hashes-room : Room u8 (length hashes)) (κ-nodes : Lft) (q-nodes : Share) (b-nodes o-nodes : ℕ) (γ-nodes : GName) (nodes : List ℕ) (nodes-room : Room u32 (length nodes)) (κ-edges : Lft) (q-edges : Share) (b-edges o-edges : ℕ) (γ-edges : GName) (edges : List Edge) (edges-room : Room T.the-row (length edges)) (κ-clocks : Lft) (q-clocks : Share) (b-clocks o-clocks : ℕ) (γ-clocks : GName) (clocks : List ℕ) (clocks-room : Room u32 (length clocks)) (κ-counts : Lft) (q-counts : Share) (b-counts o-counts : ℕ) (γ-counts : GName) (counts : List ℕ) (counts-room : Room u32 (length counts)) (κ-hash : Lft) (q-hash : Share) (b-hash o-hash : ℕ) (γ-hash : GName) (hash : List ℕ) (hash-room : Room u8 (length hash)) (actor : ℕ) (actor-fits : actor < 2 ^ 64) (seq : ℕ) (seq-fits : seq < 2 ^ 64) (max : ℕ) (max-fits : max < 2 ^ 64) (ops : ℕ) (ops-fits : ops < 2 ^ 64) (κ-deps : Lft) (q-deps : Share) (b-deps o-deps : ℕ) (γ-deps : GName) (deps : List ℕ) (deps-room : Room u8 (length deps)) (κ-unknown : Lft) (q-unknown : Share) (b-unknown o-unknown : ℕ) (γ-unknown : GName) (unknown : List ℕ) (unknown-room : Room u64 (length unknown)) where
   abbrev r-hashes : GName → List ℕ → RefT (List ℕ)
   r-hashes δ l = record { ptr = (b-hashes, o-hashes); name = δ; now = l }
 
@@ -169,17 +169,29 @@ module _ {M : Type 1} (𝓤 : URA M) (H : Heap 𝓤) (A : Atoms 𝓤) (W : Given
   abbrev Own-deps : Fml
   Own-deps = ShrSlice (named 6) κ-deps u8 .own x-deps (s-deps ∷ [])
 
+  abbrev r-unknown : GName → List ℕ → RefT (List ℕ)
+  r-unknown δ l = record { ptr = (b-unknown, o-unknown); name = δ; now = l }
+
+  abbrev x-unknown : RefT (List ℕ)
+  x-unknown = r-unknown γ-unknown unknown
+
+  abbrev s-unknown : Val
+  s-unknown = sliceVal (b-unknown, o-unknown) (length unknown)
+
+  abbrev Own-unknown : Fml
+  Own-unknown = MutSlice (named 7) κ-unknown u64 .own x-unknown (s-unknown ∷ [])
+
   abbrev Arg : Type 0
-  Arg = RefT (List ℕ) × (RefT (List ℕ) × (RefT (List Edge) × (RefT (List ℕ) × (RefT (List ℕ) × (RefT (List ℕ) × (ℕ × (ℕ × (ℕ × (ℕ × (RefT (List ℕ) × Unit {0}))))))))))
+  Arg = RefT (List ℕ) × (RefT (List ℕ) × (RefT (List Edge) × (RefT (List ℕ) × (RefT (List ℕ) × (RefT (List ℕ) × (ℕ × (ℕ × (ℕ × (ℕ × (RefT (List ℕ) × (RefT (List ℕ) × Unit {0})))))))))))
 
   abbrev a : Arg
-  a = (x-hashes, (x-nodes, (x-edges, (x-clocks, (x-counts, (x-hash, (actor, (seq, (max, (ops, (x-deps, tt)))))))))))
+  a = (x-hashes, (x-nodes, (x-edges, (x-clocks, (x-counts, (x-hash, (actor, (seq, (max, (ops, (x-deps, (x-unknown, tt))))))))))))
 
-  abbrev vals : List Val × (List Val × (List Val × (List Val × (List Val × (List Val × (List Val × (List Val × (List Val × (List Val × (List Val × Unit {0}))))))))))
-  vals = (s-hashes ∷ [], (s-nodes ∷ [], (s-edges ∷ [], (s-clocks ∷ [], (s-counts ∷ [], (s-hash ∷ [], (vint w64 actor ∷ [], (vint w64 seq ∷ [], (vint w64 max ∷ [], (vint w64 ops ∷ [], (s-deps ∷ [], tt)))))))))))
+  abbrev vals : List Val × (List Val × (List Val × (List Val × (List Val × (List Val × (List Val × (List Val × (List Val × (List Val × (List Val × (List Val × Unit {0})))))))))))
+  vals = (s-hashes ∷ [], (s-nodes ∷ [], (s-edges ∷ [], (s-clocks ∷ [], (s-counts ∷ [], (s-hash ∷ [], (vint w64 actor ∷ [], (vint w64 seq ∷ [], (vint w64 max ∷ [], (vint w64 ops ∷ [], (s-deps ∷ [], (s-unknown ∷ [], tt))))))))))))
 
   abbrev bound : walkOf 𝓤 H A f.ended stayed (f.clauses 𝓤 H A mem run) .Ghost
-  bound = (((κ-hashes, (κ-nodes, (κ-edges, (κ-clocks, (κ-counts, (κ-hash, (κ-deps, tt))))))), (q-hashes, (q-nodes, (q-edges, (q-clocks, (q-counts, (q-hash, (q-deps, tt))))))), tt, a, vals), tt)
+  bound = (((κ-hashes, (κ-nodes, (κ-edges, (κ-clocks, (κ-counts, (κ-hash, (κ-deps, (κ-unknown, tt)))))))), (q-hashes, (q-nodes, (q-edges, (q-clocks, (q-counts, (q-hash, (q-deps, (q-unknown, tt)))))))), tt, a, vals), tt)
 
   abbrev Post : Val → SProp 𝓤
   Post = walkOf 𝓤 H A f.ended stayed (f.clauses 𝓤 H A mem run) .post bound
@@ -188,17 +200,17 @@ module _ {M : Type 1} (𝓤 : URA M) (H : Heap 𝓤) (A : Atoms 𝓤) (W : Given
   abbrev Unpacked : List ℕ → List ℕ → Type 0
   Unpacked ts xs = (ts ≡ takenTargets edges E.blank E.blank) × (xs ≡ takenNexts edges E.blank E.blank)
 
-  abbrev Cored : ℕ → List ℕ → List ℕ → List ℕ → List ℕ → List ℕ → List ℕ → List ℕ → List ℕ → Type 0
-  Cored r ts xs hashes′ nodes′ ts′ xs′ clocks′ counts′ = Told (Added (change hash actor seq max ops deps)) (length edges) (tables hashes nodes ts xs clocks counts) r (tables hashes′ nodes′ ts′ xs′ clocks′ counts′)
+  abbrev Cored : ℕ → List ℕ → List ℕ → List ℕ → List ℕ → List ℕ → List ℕ → List ℕ → List ℕ → List ℕ → Type 0
+  Cored r ts xs hashes′ nodes′ ts′ xs′ clocks′ counts′ unknown′ = Told (Added (change hash actor seq max ops deps) unknown unknown′) (length edges) (tables hashes nodes ts xs clocks counts) r (tables hashes′ nodes′ ts′ xs′ clocks′ counts′) × (Beyond (length edges) (tables hashes nodes ts xs clocks counts) → unknown′ ≡ unknown)
 
   -- what the function says
-  abbrev Said : ℕ → List ℕ → List ℕ → List Edge → List ℕ → List ℕ → Type 0
-  Said r hashes′ nodes′ edges′ clocks′ counts′ = (Added (change hash actor seq max ops deps)) (lent hashes nodes edges clocks counts) r (lent hashes′ nodes′ edges′ clocks′ counts′)
+  abbrev Said : ℕ → List ℕ → List ℕ → List Edge → List ℕ → List ℕ → List ℕ → Type 0
+  Said r hashes′ nodes′ edges′ clocks′ counts′ unknown′ = (Added (change hash actor seq max ops deps) unknown unknown′) (lent hashes nodes edges clocks counts) r (lent hashes′ nodes′ edges′ clocks′ counts′)
 
-  said : (r : ℕ) (ts xs hashes′ nodes′ ts′ xs′ clocks′ counts′ : List ℕ) (edges′ : List Edge) → Unpacked ts xs → Cored r ts xs hashes′ nodes′ ts′ xs′ clocks′ counts′ → edges′ ≡ packed ts′ xs′ edges → length ts′ ≡ E.room → length xs′ ≡ E.room → length E.blank ≡ E.room → Said r hashes′ nodes′ edges′ clocks′ counts′
-  said r ts xs hashes′ nodes′ ts′ xs′ clocks′ counts′ edges′ u c p lt lx long =
-      told-lent E.room E.blank long edges (Added (change hash actor seq max ops deps)) (added-refused (change hash actor seq max ops deps)) r hashes nodes clocks counts hashes′ nodes′ ts′ xs′ clocks′ counts′ edges′ lt lx p
-      (subst (λ (l : List ℕ). Told (Added (change hash actor seq max ops deps)) (length edges) (tables hashes nodes l (takenNexts edges E.blank E.blank) clocks counts) r (tables hashes′ nodes′ ts′ xs′ clocks′ counts′)) (u .0) (subst (λ (l : List ℕ). Told (Added (change hash actor seq max ops deps)) (length edges) (tables hashes nodes ts l clocks counts) r (tables hashes′ nodes′ ts′ xs′ clocks′ counts′)) (u .1) c))
+  said : (r : ℕ) (ts xs hashes′ nodes′ ts′ xs′ clocks′ counts′ unknown′ : List ℕ) (edges′ : List Edge) → Unpacked ts xs → Cored r ts xs hashes′ nodes′ ts′ xs′ clocks′ counts′ unknown′ → edges′ ≡ packed ts′ xs′ edges → length ts′ ≡ E.room → length xs′ ≡ E.room → length E.blank ≡ E.room → Said r hashes′ nodes′ edges′ clocks′ counts′ unknown′
+  said r ts xs hashes′ nodes′ ts′ xs′ clocks′ counts′ unknown′ edges′ u c p lt lx long =
+      told-beside E.room E.blank long edges (Added (change hash actor seq max ops deps) unknown unknown′) (unknown′ ≡ unknown) (added-refused (change hash actor seq max ops deps) unknown unknown′) r hashes nodes clocks counts hashes′ nodes′ ts′ xs′ clocks′ counts′ edges′ lt lx p
+      (subst (λ (l : List ℕ). Told (Added (change hash actor seq max ops deps) unknown unknown′) (length edges) (tables hashes nodes l (takenNexts edges E.blank E.blank) clocks counts) r (tables hashes′ nodes′ ts′ xs′ clocks′ counts′) × (Beyond (length edges) (tables hashes nodes l (takenNexts edges E.blank E.blank) clocks counts) → unknown′ ≡ unknown)) (u .0) (subst (λ (l : List ℕ). Told (Added (change hash actor seq max ops deps) unknown unknown′) (length edges) (tables hashes nodes ts l clocks counts) r (tables hashes′ nodes′ ts′ xs′ clocks′ counts′) × (Beyond (length edges) (tables hashes nodes ts l clocks counts) → unknown′ ≡ unknown)) (u .1) c))
 
   abbrev to-unpack : ℕ → ℕ → ℕ → GName → GName → GName → ℕ → ℕ → Unpack 𝓤 H A mem run .Ghost
   to-unpack α ν ν′ ε δ δ′ l l′ = (((α ∷ [], (ν ∷ [], (ν′ ∷ [], tt))), (fullShare, (fullShare, (fullShare, tt))), tt, (r-edges ε edges, (L.at-list l δ E.blank, (L.at-list l′ δ′ E.blank, tt))), (s-edges ∷ [], (L.s l E.room ∷ [], (L.s l′ E.room ∷ [], tt)))), tt)
@@ -208,11 +220,11 @@ module _ {M : Type 1} (𝓤 : URA M) (H : Heap 𝓤) (A : Atoms 𝓤) (W : Given
       qed W ((‵ (flft (α ∷ []) fullShare) ⊛ ‵ (flft (ν ∷ []) fullShare) ⊛ ‵ (flft (ν′ ∷ []) fullShare)) ∷ ‵ (ShrSlice (named 0) (α ∷ []) T.the-row .own (r-edges ε edges) (s-edges ∷ [])) ∷ (‵ (MutSlice (named 1) (ν ∷ []) u32 .own (L.at-list l δ E.blank) (L.s l E.room ∷ [])) ⊛ ‵ (MutSlice (named 2) (ν′ ∷ []) u32 .own (L.at-list l′ δ′ E.blank) (L.s l′ E.room ∷ []))) ∷ []) ∵ split ! $ move ! (1 ∷ []) $ split ! $ move ! (4 ∷ []) $ split ! $ nothing ! $ move ! (4 ∷ 0 ∷ []) $ join ! $ move ! (3 ∷ 0 ∷ []) $ join ! $ move ! (3 ∷ 0 ∷ []) $ join ! $ nothing ! $ move ! (3 ∷ 0 ∷ []) $ fjoin ! $ move ! (2 ∷ 0 ∷ []) $ fjoin ! $ move ! (2 ∷ 0 ∷ []) $ fjoin ! $ move ! (1 ∷ 0 ∷ []) $ join ! $ nothing ! $ move ! (1 ∷ 0 ∷ []) $ done !
 
   abbrev to-core : ℕ → ℕ → GName → GName → ℕ → ℕ → List ℕ → List ℕ → Core 𝓤 H A mem run .Ghost
-  to-core μ μ′ ζ ζ′ l l′ ts xs = (((κ-hashes, (κ-nodes, (μ ∷ [], (μ′ ∷ [], (κ-clocks, (κ-counts, (κ-hash, (κ-deps, tt)))))))), (q-hashes, (q-nodes, (fullShare, (fullShare, (q-clocks, (q-counts, (q-hash, (q-deps, tt)))))))), tt, (x-hashes, (x-nodes, (L.at-list l ζ ts, (L.at-list l′ ζ′ xs, (length edges, (x-clocks, (x-counts, (x-hash, (actor, (seq, (max, (ops, (x-deps, tt))))))))))))), (s-hashes ∷ [], (s-nodes ∷ [], (L.s l E.room ∷ [], (L.s l′ E.room ∷ [], (vint w64 (length edges) ∷ [], (s-clocks ∷ [], (s-counts ∷ [], (s-hash ∷ [], (vint w64 actor ∷ [], (vint w64 seq ∷ [], (vint w64 max ∷ [], (vint w64 ops ∷ [], (s-deps ∷ [], tt)))))))))))))), tt)
+  to-core μ μ′ ζ ζ′ l l′ ts xs = (((κ-hashes, (κ-nodes, (μ ∷ [], (μ′ ∷ [], (κ-clocks, (κ-counts, (κ-hash, (κ-deps, (κ-unknown, tt))))))))), (q-hashes, (q-nodes, (fullShare, (fullShare, (q-clocks, (q-counts, (q-hash, (q-deps, (q-unknown, tt))))))))), tt, (x-hashes, (x-nodes, (L.at-list l ζ ts, (L.at-list l′ ζ′ xs, (length edges, (x-clocks, (x-counts, (x-hash, (actor, (seq, (max, (ops, (x-deps, (x-unknown, tt)))))))))))))), (s-hashes ∷ [], (s-nodes ∷ [], (L.s l E.room ∷ [], (L.s l′ E.room ∷ [], (vint w64 (length edges) ∷ [], (s-clocks ∷ [], (s-counts ∷ [], (s-hash ∷ [], (vint w64 actor ∷ [], (vint w64 seq ∷ [], (vint w64 max ∷ [], (vint w64 ops ∷ [], (s-deps ∷ [], (s-unknown ∷ [], tt))))))))))))))), tt)
 
-  goes-core : (μ μ′ : ℕ) (ζ ζ′ : GName) (l l′ : ℕ) (ts xs : List ℕ) → ent 𝓤 (sep 𝓤 (sep 𝓤 (sem 𝓤 H A (flft (κ-hashes) q-hashes)) (sep 𝓤 (sem 𝓤 H A (flft (κ-nodes) q-nodes)) (sep 𝓤 (sem 𝓤 H A (flft (μ ∷ []) fullShare)) (sep 𝓤 (sem 𝓤 H A (flft (μ′ ∷ []) fullShare)) (sep 𝓤 (sem 𝓤 H A (flft (κ-clocks) q-clocks)) (sep 𝓤 (sem 𝓤 H A (flft (κ-counts) q-counts)) (sep 𝓤 (sem 𝓤 H A (flft (κ-hash) q-hash)) (sem 𝓤 H A (flft (κ-deps) q-deps))))))))) (sep 𝓤 (sem 𝓤 H A (MutSlice (named 0) κ-hashes u8 .own x-hashes (s-hashes ∷ []))) (sep 𝓤 (sem 𝓤 H A (MutSlice (named 1) κ-nodes u32 .own x-nodes (s-nodes ∷ []))) (sep 𝓤 (sem 𝓤 H A (MutSlice (named 2) (μ ∷ []) u32 .own (L.at-list l ζ ts) (L.s l E.room ∷ []))) (sep 𝓤 (sem 𝓤 H A (MutSlice (named 3) (μ′ ∷ []) u32 .own (L.at-list l′ ζ′ xs) (L.s l′ E.room ∷ []))) (sep 𝓤 (sem 𝓤 H A (MutSlice (named 4) κ-clocks u32 .own x-clocks (s-clocks ∷ []))) (sep 𝓤 (sem 𝓤 H A (MutSlice (named 5) κ-counts u32 .own x-counts (s-counts ∷ []))) (sep 𝓤 (sem 𝓤 H A (ShrSlice (named 6) κ-hash u8 .own x-hash (s-hash ∷ []))) (sem 𝓤 H A (ShrSlice (named 7) κ-deps u8 .own x-deps (s-deps ∷ []))))))))))) (Core 𝓤 H A mem run .pre (to-core μ μ′ ζ ζ′ l l′ ts xs))
+  goes-core : (μ μ′ : ℕ) (ζ ζ′ : GName) (l l′ : ℕ) (ts xs : List ℕ) → ent 𝓤 (sep 𝓤 (sep 𝓤 (sem 𝓤 H A (flft (κ-hashes) q-hashes)) (sep 𝓤 (sem 𝓤 H A (flft (κ-nodes) q-nodes)) (sep 𝓤 (sem 𝓤 H A (flft (μ ∷ []) fullShare)) (sep 𝓤 (sem 𝓤 H A (flft (μ′ ∷ []) fullShare)) (sep 𝓤 (sem 𝓤 H A (flft (κ-clocks) q-clocks)) (sep 𝓤 (sem 𝓤 H A (flft (κ-counts) q-counts)) (sep 𝓤 (sem 𝓤 H A (flft (κ-hash) q-hash)) (sep 𝓤 (sem 𝓤 H A (flft (κ-deps) q-deps)) (sem 𝓤 H A (flft (κ-unknown) q-unknown)))))))))) (sep 𝓤 (sem 𝓤 H A (MutSlice (named 0) κ-hashes u8 .own x-hashes (s-hashes ∷ []))) (sep 𝓤 (sem 𝓤 H A (MutSlice (named 1) κ-nodes u32 .own x-nodes (s-nodes ∷ []))) (sep 𝓤 (sem 𝓤 H A (MutSlice (named 2) (μ ∷ []) u32 .own (L.at-list l ζ ts) (L.s l E.room ∷ []))) (sep 𝓤 (sem 𝓤 H A (MutSlice (named 3) (μ′ ∷ []) u32 .own (L.at-list l′ ζ′ xs) (L.s l′ E.room ∷ []))) (sep 𝓤 (sem 𝓤 H A (MutSlice (named 4) κ-clocks u32 .own x-clocks (s-clocks ∷ []))) (sep 𝓤 (sem 𝓤 H A (MutSlice (named 5) κ-counts u32 .own x-counts (s-counts ∷ []))) (sep 𝓤 (sem 𝓤 H A (ShrSlice (named 6) κ-hash u8 .own x-hash (s-hash ∷ []))) (sep 𝓤 (sem 𝓤 H A (ShrSlice (named 7) κ-deps u8 .own x-deps (s-deps ∷ []))) (sem 𝓤 H A (MutSlice (named 8) κ-unknown u64 .own x-unknown (s-unknown ∷ [])))))))))))) (Core 𝓤 H A mem run .pre (to-core μ μ′ ζ ζ′ l l′ ts xs))
   goes-core μ μ′ ζ ζ′ l l′ ts xs =
-      qed W ((‵ (flft (κ-hashes) q-hashes) ⊛ ‵ (flft (κ-nodes) q-nodes) ⊛ ‵ (flft (μ ∷ []) fullShare) ⊛ ‵ (flft (μ′ ∷ []) fullShare) ⊛ ‵ (flft (κ-clocks) q-clocks) ⊛ ‵ (flft (κ-counts) q-counts) ⊛ ‵ (flft (κ-hash) q-hash) ⊛ ‵ (flft (κ-deps) q-deps)) ∷ (‵ (MutSlice (named 0) κ-hashes u8 .own x-hashes (s-hashes ∷ [])) ⊛ ‵ (MutSlice (named 1) κ-nodes u32 .own x-nodes (s-nodes ∷ [])) ⊛ ‵ (MutSlice (named 2) (μ ∷ []) u32 .own (L.at-list l ζ ts) (L.s l E.room ∷ [])) ⊛ ‵ (MutSlice (named 3) (μ′ ∷ []) u32 .own (L.at-list l′ ζ′ xs) (L.s l′ E.room ∷ [])) ⊛ ‵ (MutSlice (named 4) κ-clocks u32 .own x-clocks (s-clocks ∷ [])) ⊛ ‵ (MutSlice (named 5) κ-counts u32 .own x-counts (s-counts ∷ [])) ⊛ ‵ (ShrSlice (named 6) κ-hash u8 .own x-hash (s-hash ∷ [])) ⊛ ‵ (ShrSlice (named 7) κ-deps u8 .own x-deps (s-deps ∷ []))) ∷ []) ∵ split ! $ move ! (1 ∷ []) $ split ! $ move ! (1 ∷ []) $ split ! $ move ! (1 ∷ []) $ split ! $ move ! (1 ∷ []) $ split ! $ move ! (1 ∷ []) $ split ! $ move ! (1 ∷ []) $ split ! $ move ! (8 ∷ []) $ split ! $ move ! (1 ∷ []) $ split ! $ move ! (1 ∷ []) $ split ! $ move ! (1 ∷ []) $ split ! $ move ! (1 ∷ []) $ split ! $ move ! (1 ∷ []) $ split ! $ move ! (1 ∷ []) $ split ! $ nothing ! $ move ! (10 ∷ 0 ∷ []) $ join ! $ move ! (9 ∷ 0 ∷ []) $ join ! $ move ! (9 ∷ 0 ∷ []) $ join ! $ move ! (9 ∷ 0 ∷ []) $ join ! $ move ! (9 ∷ 0 ∷ []) $ join ! $ move ! (9 ∷ 0 ∷ []) $ join ! $ move ! (9 ∷ 0 ∷ []) $ join ! $ move ! (9 ∷ 0 ∷ []) $ join ! $ nothing ! $ move ! (3 ∷ 0 ∷ []) $ fjoin ! $ owned ! u64 (Is u64) (uint-makes 𝓤 H A W w64) ops _ (refl, ops-fits) $ fjoin ! $ owned ! u64 (Is u64) (uint-makes 𝓤 H A W w64) max _ (refl, max-fits) $ fjoin ! $ owned ! u64 (Is u64) (uint-makes 𝓤 H A W w64) seq _ (refl, seq-fits) $ fjoin ! $ owned ! u64 (Is u64) (uint-makes 𝓤 H A W w64) actor _ (refl, actor-fits) $ fjoin ! $ move ! (2 ∷ 0 ∷ []) $ fjoin ! $ move ! (2 ∷ 0 ∷ []) $ fjoin ! $ move ! (2 ∷ 0 ∷ []) $ fjoin ! $ owned ! usize (Is usize) (uint-makes 𝓤 H A W w64) (length edges) _ (refl, edges-room .0) $ fjoin ! $ move ! (2 ∷ 0 ∷ []) $ fjoin ! $ move ! (2 ∷ 0 ∷ []) $ fjoin ! $ move ! (2 ∷ 0 ∷ []) $ fjoin ! $ move ! (2 ∷ 0 ∷ []) $ fjoin ! $ move ! (1 ∷ 0 ∷ []) $ join ! $ nothing ! $ move ! (1 ∷ 0 ∷ []) $ done !
+      qed W ((‵ (flft (κ-hashes) q-hashes) ⊛ ‵ (flft (κ-nodes) q-nodes) ⊛ ‵ (flft (μ ∷ []) fullShare) ⊛ ‵ (flft (μ′ ∷ []) fullShare) ⊛ ‵ (flft (κ-clocks) q-clocks) ⊛ ‵ (flft (κ-counts) q-counts) ⊛ ‵ (flft (κ-hash) q-hash) ⊛ ‵ (flft (κ-deps) q-deps) ⊛ ‵ (flft (κ-unknown) q-unknown)) ∷ (‵ (MutSlice (named 0) κ-hashes u8 .own x-hashes (s-hashes ∷ [])) ⊛ ‵ (MutSlice (named 1) κ-nodes u32 .own x-nodes (s-nodes ∷ [])) ⊛ ‵ (MutSlice (named 2) (μ ∷ []) u32 .own (L.at-list l ζ ts) (L.s l E.room ∷ [])) ⊛ ‵ (MutSlice (named 3) (μ′ ∷ []) u32 .own (L.at-list l′ ζ′ xs) (L.s l′ E.room ∷ [])) ⊛ ‵ (MutSlice (named 4) κ-clocks u32 .own x-clocks (s-clocks ∷ [])) ⊛ ‵ (MutSlice (named 5) κ-counts u32 .own x-counts (s-counts ∷ [])) ⊛ ‵ (ShrSlice (named 6) κ-hash u8 .own x-hash (s-hash ∷ [])) ⊛ ‵ (ShrSlice (named 7) κ-deps u8 .own x-deps (s-deps ∷ [])) ⊛ ‵ (MutSlice (named 8) κ-unknown u64 .own x-unknown (s-unknown ∷ []))) ∷ []) ∵ split ! $ move ! (1 ∷ []) $ split ! $ move ! (1 ∷ []) $ split ! $ move ! (1 ∷ []) $ split ! $ move ! (1 ∷ []) $ split ! $ move ! (1 ∷ []) $ split ! $ move ! (1 ∷ []) $ split ! $ move ! (1 ∷ []) $ split ! $ move ! (9 ∷ []) $ split ! $ move ! (1 ∷ []) $ split ! $ move ! (1 ∷ []) $ split ! $ move ! (1 ∷ []) $ split ! $ move ! (1 ∷ []) $ split ! $ move ! (1 ∷ []) $ split ! $ move ! (1 ∷ []) $ split ! $ move ! (1 ∷ []) $ split ! $ nothing ! $ move ! (11 ∷ 0 ∷ []) $ join ! $ move ! (10 ∷ 0 ∷ []) $ join ! $ move ! (10 ∷ 0 ∷ []) $ join ! $ move ! (10 ∷ 0 ∷ []) $ join ! $ move ! (10 ∷ 0 ∷ []) $ join ! $ move ! (10 ∷ 0 ∷ []) $ join ! $ move ! (10 ∷ 0 ∷ []) $ join ! $ move ! (10 ∷ 0 ∷ []) $ join ! $ move ! (10 ∷ 0 ∷ []) $ join ! $ nothing ! $ move ! (3 ∷ 0 ∷ []) $ fjoin ! $ move ! (2 ∷ 0 ∷ []) $ fjoin ! $ owned ! u64 (Is u64) (uint-makes 𝓤 H A W w64) ops _ (refl, ops-fits) $ fjoin ! $ owned ! u64 (Is u64) (uint-makes 𝓤 H A W w64) max _ (refl, max-fits) $ fjoin ! $ owned ! u64 (Is u64) (uint-makes 𝓤 H A W w64) seq _ (refl, seq-fits) $ fjoin ! $ owned ! u64 (Is u64) (uint-makes 𝓤 H A W w64) actor _ (refl, actor-fits) $ fjoin ! $ move ! (2 ∷ 0 ∷ []) $ fjoin ! $ move ! (2 ∷ 0 ∷ []) $ fjoin ! $ move ! (2 ∷ 0 ∷ []) $ fjoin ! $ owned ! usize (Is usize) (uint-makes 𝓤 H A W w64) (length edges) _ (refl, edges-room .0) $ fjoin ! $ move ! (2 ∷ 0 ∷ []) $ fjoin ! $ move ! (2 ∷ 0 ∷ []) $ fjoin ! $ move ! (2 ∷ 0 ∷ []) $ fjoin ! $ move ! (2 ∷ 0 ∷ []) $ fjoin ! $ move ! (1 ∷ 0 ∷ []) $ join ! $ nothing ! $ move ! (1 ∷ 0 ∷ []) $ done !
 
   abbrev to-pack : ℕ → ℕ → GName → GName → ℕ → ℕ → List ℕ → List ℕ → Pack 𝓤 H A mem run .Ghost
   to-pack β β′ η η′ l l′ ts xs = (((β ∷ [], (β′ ∷ [], (κ-edges, tt))), (fullShare, (fullShare, (q-edges, tt))), tt, (L.at-list l η ts, (L.at-list l′ η′ xs, (x-edges, tt))), (L.s l E.room ∷ [], (L.s l′ E.room ∷ [], (s-edges ∷ [], tt)))), tt)
@@ -221,84 +233,85 @@ module _ {M : Type 1} (𝓤 : URA M) (H : Heap 𝓤) (A : Atoms 𝓤) (W : Given
   goes-pack β β′ η η′ l l′ ts xs =
       qed W ((‵ (flft (β ∷ []) fullShare) ⊛ ‵ (flft (β′ ∷ []) fullShare) ⊛ ‵ (flft κ-edges q-edges)) ∷ ‵ (MutSlice (named 2) κ-edges T.the-row .own x-edges (s-edges ∷ [])) ∷ (‵ (ShrSlice (named 0) (β ∷ []) u32 .own (L.at-list l η ts) (L.s l E.room ∷ [])) ⊛ ‵ (ShrSlice (named 1) (β′ ∷ []) u32 .own (L.at-list l′ η′ xs) (L.s l′ E.room ∷ []))) ∷ []) ∵ split ! $ move ! (1 ∷ []) $ split ! $ move ! (4 ∷ []) $ split ! $ nothing ! $ move ! (4 ∷ 0 ∷ []) $ join ! $ move ! (3 ∷ 0 ∷ []) $ join ! $ move ! (3 ∷ 0 ∷ []) $ join ! $ nothing ! $ move ! (4 ∷ 0 ∷ []) $ fjoin ! $ move ! (3 ∷ 0 ∷ []) $ fjoin ! $ move ! (2 ∷ 0 ∷ []) $ fjoin ! $ move ! (1 ∷ 0 ∷ []) $ join ! $ nothing ! $ move ! (1 ∷ 0 ∷ []) $ done !
 
-  exits : (r : ℕ) (v : Val) (hashes′ : List ℕ) (nodes′ : List ℕ) (edges′ : List Edge) (clocks′ : List ℕ) (counts′ : List ℕ) → length hashes′ ≡ length hashes → length nodes′ ≡ length nodes → length edges′ ≡ length edges → length clocks′ ≡ length clocks → length counts′ ≡ length counts → Said r hashes′ nodes′ edges′ clocks′ counts′ → ent 𝓤 (⋆ 𝓤 H A (‵ (flft κ-hashes q-hashes) ∷ ‵ (flft κ-nodes q-nodes) ∷ ‵ (flft κ-edges q-edges) ∷ ‵ (flft κ-clocks q-clocks) ∷ ‵ (flft κ-counts q-counts) ∷ ‵ (flft κ-hash q-hash) ∷ ‵ (flft κ-deps q-deps) ∷ ‵ (finally u8 γ-hashes hashes′) ∷ ‵ (finally u32 γ-nodes nodes′) ∷ ‵ (finally T.the-row γ-edges edges′) ∷ ‵ (finally u32 γ-clocks clocks′) ∷ ‵ (finally u32 γ-counts counts′) ∷ ‵ (Own-hash) ∷ ‵ (Own-deps) ∷ ‵ (u32 .own r (v ∷ [])) ∷ [])) (Post v)
-  exits r v hashes′ nodes′ edges′ clocks′ counts′ l-hashes l-nodes l-edges l-clocks l-counts c =
-      qed W (‵ (flft κ-hashes q-hashes) ∷ ‵ (flft κ-nodes q-nodes) ∷ ‵ (flft κ-edges q-edges) ∷ ‵ (flft κ-clocks q-clocks) ∷ ‵ (flft κ-counts q-counts) ∷ ‵ (flft κ-hash q-hash) ∷ ‵ (flft κ-deps q-deps) ∷ ‵ (finally u8 γ-hashes hashes′) ∷ ‵ (finally u32 γ-nodes nodes′) ∷ ‵ (finally T.the-row γ-edges edges′) ∷ ‵ (finally u32 γ-clocks clocks′) ∷ ‵ (finally u32 γ-counts counts′) ∷ ‵ (Own-hash) ∷ ‵ (Own-deps) ∷ ‵ (u32 .own r (v ∷ [])) ∷ []) ∵ suffices ! _ (ends-at 𝓤 H A f.ended stayed (f.clauses 𝓤 H A mem run) W bound v r (hashes′, (nodes′, (edges′, (clocks′, (counts′, (tt, (tt, (tt, (tt, (tt, (tt, tt))))))))))) (l-hashes, (l-nodes, (l-edges, (l-clocks, (l-counts, (tt, (tt, (tt, (tt, (tt, (tt, tt)))))))))))) $ says ! c $ nothing ! $ move ! (7 ∷ 0 ∷ []) $ join ! $ move ! (6 ∷ 0 ∷ []) $ join ! $ move ! (5 ∷ 0 ∷ []) $ join ! $ move ! (4 ∷ 0 ∷ []) $ join ! $ move ! (3 ∷ 0 ∷ []) $ join ! $ move ! (2 ∷ 0 ∷ []) $ join ! $ move ! (1 ∷ 0 ∷ []) $ join ! $ frame ! $ nothing ! $ move ! (7 ∷ 0 ∷ []) $ fjoin ! $ owned ! u64 (Is u64) (uint-makes 𝓤 H A W w64) ops _ (refl, ops-fits) $ fjoin ! $ owned ! u64 (Is u64) (uint-makes 𝓤 H A W w64) max _ (refl, max-fits) $ fjoin ! $ owned ! u64 (Is u64) (uint-makes 𝓤 H A W w64) seq _ (refl, seq-fits) $ fjoin ! $ owned ! u64 (Is u64) (uint-makes 𝓤 H A W w64) actor _ (refl, actor-fits) $ fjoin ! $ move ! (6 ∷ 0 ∷ []) $ fjoin ! $ move ! (5 ∷ 0 ∷ []) $ fjoin ! $ move ! (4 ∷ 0 ∷ []) $ fjoin ! $ move ! (3 ∷ 0 ∷ []) $ fjoin ! $ move ! (2 ∷ 0 ∷ []) $ fjoin ! $ move ! (1 ∷ 0 ∷ []) $ fjoin ! $ done !
+  exits : (r : ℕ) (v : Val) (hashes′ : List ℕ) (nodes′ : List ℕ) (edges′ : List Edge) (clocks′ : List ℕ) (counts′ : List ℕ) (unknown′ : List ℕ) → length hashes′ ≡ length hashes → length nodes′ ≡ length nodes → length edges′ ≡ length edges → length clocks′ ≡ length clocks → length counts′ ≡ length counts → length unknown′ ≡ length unknown → Said r hashes′ nodes′ edges′ clocks′ counts′ unknown′ → ent 𝓤 (⋆ 𝓤 H A (‵ (flft κ-hashes q-hashes) ∷ ‵ (flft κ-nodes q-nodes) ∷ ‵ (flft κ-edges q-edges) ∷ ‵ (flft κ-clocks q-clocks) ∷ ‵ (flft κ-counts q-counts) ∷ ‵ (flft κ-hash q-hash) ∷ ‵ (flft κ-deps q-deps) ∷ ‵ (flft κ-unknown q-unknown) ∷ ‵ (finally u8 γ-hashes hashes′) ∷ ‵ (finally u32 γ-nodes nodes′) ∷ ‵ (finally T.the-row γ-edges edges′) ∷ ‵ (finally u32 γ-clocks clocks′) ∷ ‵ (finally u32 γ-counts counts′) ∷ ‵ (Own-hash) ∷ ‵ (Own-deps) ∷ ‵ (finally u64 γ-unknown unknown′) ∷ ‵ (u32 .own r (v ∷ [])) ∷ [])) (Post v)
+  exits r v hashes′ nodes′ edges′ clocks′ counts′ unknown′ l-hashes l-nodes l-edges l-clocks l-counts l-unknown c =
+      qed W (‵ (flft κ-hashes q-hashes) ∷ ‵ (flft κ-nodes q-nodes) ∷ ‵ (flft κ-edges q-edges) ∷ ‵ (flft κ-clocks q-clocks) ∷ ‵ (flft κ-counts q-counts) ∷ ‵ (flft κ-hash q-hash) ∷ ‵ (flft κ-deps q-deps) ∷ ‵ (flft κ-unknown q-unknown) ∷ ‵ (finally u8 γ-hashes hashes′) ∷ ‵ (finally u32 γ-nodes nodes′) ∷ ‵ (finally T.the-row γ-edges edges′) ∷ ‵ (finally u32 γ-clocks clocks′) ∷ ‵ (finally u32 γ-counts counts′) ∷ ‵ (Own-hash) ∷ ‵ (Own-deps) ∷ ‵ (finally u64 γ-unknown unknown′) ∷ ‵ (u32 .own r (v ∷ [])) ∷ []) ∵ suffices ! _ (ends-at 𝓤 H A f.ended stayed (f.clauses 𝓤 H A mem run) W bound v r (hashes′, (nodes′, (edges′, (clocks′, (counts′, (tt, (tt, (tt, (tt, (tt, (tt, (unknown′, tt)))))))))))) (l-hashes, (l-nodes, (l-edges, (l-clocks, (l-counts, (tt, (tt, (tt, (tt, (tt, (tt, (l-unknown, tt))))))))))))) $ says ! c $ nothing ! $ move ! (8 ∷ 0 ∷ []) $ join ! $ move ! (7 ∷ 0 ∷ []) $ join ! $ move ! (6 ∷ 0 ∷ []) $ join ! $ move ! (5 ∷ 0 ∷ []) $ join ! $ move ! (4 ∷ 0 ∷ []) $ join ! $ move ! (3 ∷ 0 ∷ []) $ join ! $ move ! (2 ∷ 0 ∷ []) $ join ! $ move ! (1 ∷ 0 ∷ []) $ join ! $ frame ! $ nothing ! $ move ! (8 ∷ 0 ∷ []) $ fjoin ! $ move ! (7 ∷ 0 ∷ []) $ fjoin ! $ owned ! u64 (Is u64) (uint-makes 𝓤 H A W w64) ops _ (refl, ops-fits) $ fjoin ! $ owned ! u64 (Is u64) (uint-makes 𝓤 H A W w64) max _ (refl, max-fits) $ fjoin ! $ owned ! u64 (Is u64) (uint-makes 𝓤 H A W w64) seq _ (refl, seq-fits) $ fjoin ! $ owned ! u64 (Is u64) (uint-makes 𝓤 H A W w64) actor _ (refl, actor-fits) $ fjoin ! $ move ! (6 ∷ 0 ∷ []) $ fjoin ! $ move ! (5 ∷ 0 ∷ []) $ fjoin ! $ move ! (4 ∷ 0 ∷ []) $ fjoin ! $ move ! (3 ∷ 0 ∷ []) $ fjoin ! $ move ! (2 ∷ 0 ∷ []) $ fjoin ! $ move ! (1 ∷ 0 ∷ []) $ fjoin ! $ done !
 
   module _ (C : Calls 𝓤 H) (Λ : Loops 𝓤 H) (fm : FmC 𝓤 H (W .laws) C) (known-unpack : Triple 𝓤 (C #unpack) (Unpack 𝓤 H A mem run)) (known-core : Triple 𝓤 (C #core) (Core 𝓤 H A mem run)) (known-pack : Triple 𝓤 (C #pack) (Pack 𝓤 H A mem run)) where
-    walk : ent 𝓤 (onEntry 𝓤 H A f.signature (κ-hashes, (κ-nodes, (κ-edges, (κ-clocks, (κ-counts, (κ-hash, (κ-deps, tt))))))) (q-hashes, (q-nodes, (q-edges, (q-clocks, (q-counts, (q-hash, (q-deps, tt))))))) a vals) (WpFn 𝓤 H C Λ code.function (s-hashes ∷ s-nodes ∷ s-edges ∷ s-clocks ∷ s-counts ∷ s-hash ∷ vint w64 actor ∷ vint w64 seq ∷ vint w64 max ∷ vint w64 ops ∷ s-deps ∷ []) Post)
+    walk : ent 𝓤 (onEntry 𝓤 H A f.signature (κ-hashes, (κ-nodes, (κ-edges, (κ-clocks, (κ-counts, (κ-hash, (κ-deps, (κ-unknown, tt)))))))) (q-hashes, (q-nodes, (q-edges, (q-clocks, (q-counts, (q-hash, (q-deps, (q-unknown, tt)))))))) a vals) (WpFn 𝓤 H C Λ code.function (s-hashes ∷ s-nodes ∷ s-edges ∷ s-clocks ∷ s-counts ∷ s-hash ∷ vint w64 actor ∷ vint w64 seq ∷ vint w64 max ∷ vint w64 ops ∷ s-deps ∷ s-unknown ∷ []) Post)
     walk =
-        qed W ((‵ (flft κ-hashes q-hashes) ⊛ ‵ (flft κ-nodes q-nodes) ⊛ ‵ (flft κ-edges q-edges) ⊛ ‵ (flft κ-clocks q-clocks) ⊛ ‵ (flft κ-counts q-counts) ⊛ ‵ (flft κ-hash q-hash) ⊛ ‵ (flft κ-deps q-deps) ⊛ ‵ ftrue) ∷ ‵ (owns (MutSlice (named 0) κ-hashes u8 ∷ MutSlice (named 1) κ-nodes u32 ∷ MutSlice (named 2) κ-edges T.the-row ∷ MutSlice (named 3) κ-clocks u32 ∷ MutSlice (named 4) κ-counts u32 ∷ ShrSlice (named 5) κ-hash u8 ∷ u64 ∷ u64 ∷ u64 ∷ u64 ∷ ShrSlice (named 6) κ-deps u8 ∷ []) a vals) ∷ []) ∵ enter ! C Λ code.function (s-hashes ∷ s-nodes ∷ s-edges ∷ s-clocks ∷ s-counts ∷ s-hash ∷ vint w64 actor ∷ vint w64 seq ∷ vint w64 max ∷ vint w64 ops ∷ s-deps ∷ []) _ $
-        alloc1 ! (λ l₀. alloc1 ! (λ l₁. alloc1 ! (λ l₂. alloc1 ! (λ l₃. alloc1 ! (λ l₄. alloc1 ! (λ l₅. alloc1 ! (λ l₆. alloc1 ! (λ l₇. alloc1 ! (λ l₈. alloc1 ! (λ l₉. alloc1 ! (λ l₁₀. alloc1 ! (λ l₁₁. alloc1 ! (λ l₁₂. alloc1 ! (λ l₁₃. alloc1 ! (λ l₁₄. alloc1 ! (λ l₁₅. alloc1 ! (λ l₁₆. alloc1 ! (λ l₁₇. alloc1 ! (λ l₁₈. alloc1 ! (λ l₁₉. alloc1 ! (λ l₂₀. alloc1 ! (λ l₂₁. alloc1 ! (λ l₂₂. alloc1 ! (λ l₂₃. alloc1 ! (λ l₂₄. alloc1 ! (λ l₂₅. alloc1 ! (λ l₂₆. alloc1 ! (λ l₂₇. alloc1 ! (λ l₂₈. alloc1 ! (λ l₂₉. alloc1 ! (λ l₃₀. alloc1 ! (λ l₃₁. alloc1 ! (λ l₃₂. alloc1 ! (λ l₃₃. alloc1 ! (λ l₃₄. alloc1 ! (λ l₃₅. alloc1 ! (λ l₃₆. alloc1 ! (λ l₃₇. alloc1 ! (λ l₃₈. alloc1 ! (λ l₃₉. alloc1 ! (λ l₄₀. alloc0 ! $ params1 ! $
-        pass1 ! (init ! 78 refl (tt, (tt, (record { fits = hashes-room .0 }, tt)))) $ pass1 ! (init ! 76 refl (tt, (tt, (record { fits = nodes-room .0 }, tt)))) $ pass1 ! (init ! 74 refl (tt, (tt, (record { fits = edges-room .0 }, tt)))) $ pass1 ! (init ! 72 refl (tt, (tt, (record { fits = clocks-room .0 }, tt)))) $ pass1 ! (init ! 70 refl (tt, (tt, (record { fits = counts-room .0 }, tt)))) $ pass1 ! (init ! 68 refl (tt, (tt, (record { fits = hash-room .0 }, tt)))) $ pass1 ! (init ! 66 refl (tt, record { fits = actor-fits })) $ pass1 ! (init ! 64 refl (tt, record { fits = seq-fits })) $ pass1 ! (init ! 62 refl (tt, record { fits = max-fits })) $ pass1 ! (init ! 60 refl (tt, record { fits = ops-fits })) $ pass1 ! (init ! 58 refl (tt, (tt, (record { fits = deps-room .0 }, tt)))) $ pass0 ! $
-        assigns ! (rep ! E.room (lit ! tt)) (from ! (stop !)) (init ! 56 refl (L.zeros-typed 𝓤 H A W (named 1) E.room)) $ assigns ! (rep ! E.room (lit ! tt)) (from ! (stop !)) (init ! 54 refl (L.zeros-typed 𝓤 H A W (named 1) E.room)) $ assigns ! (of-opd ! (load ! (from ! (fld ! refl (stop !))) (look-in ! 74 (sub ! 1 refl (whole !))))) (from ! (stop !)) (init ! 52 refl (tt, record { fits = edges-room .0 })) $
-        assigns ! (addr ! (from ! (fld ! refl (hop ! (look-in ! 74 (sub ! 0 refl (whole !))) (stop !))))) (from ! (stop !)) (init ! 46 refl (tt, tt)) $ assigns ! (agg ! (and-then ! (load ! (from ! (stop !)) (look ! 46 refl)) (and-then ! (load ! (from ! (fld ! refl (stop !))) (look-in ! 74 (sub ! 1 refl (whole !)))) (no-more !)))) (from ! (stop !)) (init ! 44 refl (tt, (tt, (record { fits = edges-room .0 }, tt)))) $
+        qed W ((‵ (flft κ-hashes q-hashes) ⊛ ‵ (flft κ-nodes q-nodes) ⊛ ‵ (flft κ-edges q-edges) ⊛ ‵ (flft κ-clocks q-clocks) ⊛ ‵ (flft κ-counts q-counts) ⊛ ‵ (flft κ-hash q-hash) ⊛ ‵ (flft κ-deps q-deps) ⊛ ‵ (flft κ-unknown q-unknown) ⊛ ‵ ftrue) ∷ ‵ (owns (MutSlice (named 0) κ-hashes u8 ∷ MutSlice (named 1) κ-nodes u32 ∷ MutSlice (named 2) κ-edges T.the-row ∷ MutSlice (named 3) κ-clocks u32 ∷ MutSlice (named 4) κ-counts u32 ∷ ShrSlice (named 5) κ-hash u8 ∷ u64 ∷ u64 ∷ u64 ∷ u64 ∷ ShrSlice (named 6) κ-deps u8 ∷ MutSlice (named 7) κ-unknown u64 ∷ []) a vals) ∷ []) ∵ enter ! C Λ code.function (s-hashes ∷ s-nodes ∷ s-edges ∷ s-clocks ∷ s-counts ∷ s-hash ∷ vint w64 actor ∷ vint w64 seq ∷ vint w64 max ∷ vint w64 ops ∷ s-deps ∷ s-unknown ∷ []) _ $
+        alloc1 ! (λ l₀. alloc1 ! (λ l₁. alloc1 ! (λ l₂. alloc1 ! (λ l₃. alloc1 ! (λ l₄. alloc1 ! (λ l₅. alloc1 ! (λ l₆. alloc1 ! (λ l₇. alloc1 ! (λ l₈. alloc1 ! (λ l₉. alloc1 ! (λ l₁₀. alloc1 ! (λ l₁₁. alloc1 ! (λ l₁₂. alloc1 ! (λ l₁₃. alloc1 ! (λ l₁₄. alloc1 ! (λ l₁₅. alloc1 ! (λ l₁₆. alloc1 ! (λ l₁₇. alloc1 ! (λ l₁₈. alloc1 ! (λ l₁₉. alloc1 ! (λ l₂₀. alloc1 ! (λ l₂₁. alloc1 ! (λ l₂₂. alloc1 ! (λ l₂₃. alloc1 ! (λ l₂₄. alloc1 ! (λ l₂₅. alloc1 ! (λ l₂₆. alloc1 ! (λ l₂₇. alloc1 ! (λ l₂₈. alloc1 ! (λ l₂₉. alloc1 ! (λ l₃₀. alloc1 ! (λ l₃₁. alloc1 ! (λ l₃₂. alloc1 ! (λ l₃₃. alloc1 ! (λ l₃₄. alloc1 ! (λ l₃₅. alloc1 ! (λ l₃₆. alloc1 ! (λ l₃₇. alloc1 ! (λ l₃₈. alloc1 ! (λ l₃₉. alloc1 ! (λ l₄₀. alloc1 ! (λ l₄₁. alloc1 ! (λ l₄₂. alloc1 ! (λ l₄₃. alloc0 ! $ params1 ! $
+        pass1 ! (init ! 84 refl (tt, (tt, (record { fits = hashes-room .0 }, tt)))) $ pass1 ! (init ! 82 refl (tt, (tt, (record { fits = nodes-room .0 }, tt)))) $ pass1 ! (init ! 80 refl (tt, (tt, (record { fits = edges-room .0 }, tt)))) $ pass1 ! (init ! 78 refl (tt, (tt, (record { fits = clocks-room .0 }, tt)))) $ pass1 ! (init ! 76 refl (tt, (tt, (record { fits = counts-room .0 }, tt)))) $ pass1 ! (init ! 74 refl (tt, (tt, (record { fits = hash-room .0 }, tt)))) $ pass1 ! (init ! 72 refl (tt, record { fits = actor-fits })) $ pass1 ! (init ! 70 refl (tt, record { fits = seq-fits })) $ pass1 ! (init ! 68 refl (tt, record { fits = max-fits })) $ pass1 ! (init ! 66 refl (tt, record { fits = ops-fits })) $ pass1 ! (init ! 64 refl (tt, (tt, (record { fits = deps-room .0 }, tt)))) $ pass1 ! (init ! 62 refl (tt, (tt, (record { fits = unknown-room .0 }, tt)))) $ pass0 ! $
+        assigns ! (rep ! E.room (lit ! tt)) (from ! (stop !)) (init ! 60 refl (L.zeros-typed 𝓤 H A W (named 1) E.room)) $ assigns ! (rep ! E.room (lit ! tt)) (from ! (stop !)) (init ! 58 refl (L.zeros-typed 𝓤 H A W (named 1) E.room)) $ assigns ! (of-opd ! (load ! (from ! (fld ! refl (stop !))) (look-in ! 80 (sub ! 1 refl (whole !))))) (from ! (stop !)) (init ! 56 refl (tt, record { fits = edges-room .0 })) $
+        assigns ! (addr ! (from ! (fld ! refl (hop ! (look-in ! 80 (sub ! 0 refl (whole !))) (stop !))))) (from ! (stop !)) (init ! 50 refl (tt, tt)) $ assigns ! (agg ! (and-then ! (load ! (from ! (stop !)) (look ! 50 refl)) (and-then ! (load ! (from ! (fld ! refl (stop !))) (look-in ! 80 (sub ! 1 refl (whole !)))) (no-more !)))) (from ! (stop !)) (init ! 48 refl (tt, (tt, (record { fits = edges-room .0 }, tt)))) $
+        assigns ! (addr ! (from ! (stop !))) (from ! (stop !)) (init ! 46 refl (tt, tt)) $ assigns ! (agg ! (and-then ! (load ! (from ! (stop !)) (look ! 46 refl)) (and-then ! (L.lit-big ! (record { fits = lit< tt })) (no-more !)))) (from ! (stop !)) (init ! 44 refl (tt, (tt, (record { fits = lit< tt }, tt)))) $
         assigns ! (addr ! (from ! (stop !))) (from ! (stop !)) (init ! 42 refl (tt, tt)) $ assigns ! (agg ! (and-then ! (load ! (from ! (stop !)) (look ! 42 refl)) (and-then ! (L.lit-big ! (record { fits = lit< tt })) (no-more !)))) (from ! (stop !)) (init ! 40 refl (tt, (tt, (record { fits = lit< tt }, tt)))) $
-        assigns ! (addr ! (from ! (stop !))) (from ! (stop !)) (init ! 38 refl (tt, tt)) $ assigns ! (agg ! (and-then ! (load ! (from ! (stop !)) (look ! 38 refl)) (and-then ! (L.lit-big ! (record { fits = lit< tt })) (no-more !)))) (from ! (stop !)) (init ! 36 refl (tt, (tt, (record { fits = lit< tt }, tt)))) $
-        move ! (83 ∷ []) $ fsplit ! $ move ! (1 ∷ []) $ fsplit ! $ move ! (1 ∷ []) $ fsplit ! $ move ! (1 ∷ []) $ fsplit ! $ move ! (1 ∷ []) $ fsplit ! $ move ! (1 ∷ []) $ fsplit ! $ move ! (1 ∷ []) $ fsplit ! $ drop ! $ fsplit ! $ drop ! $ fsplit ! $ drop ! $ fsplit ! $ drop ! $ fsplit ! $ move ! (1 ∷ []) $ drop ! $ move ! (89 ∷ []) $ split ! $ move ! (1 ∷ []) $ split ! $ move ! (1 ∷ []) $ split ! $ move ! (1 ∷ []) $ split ! $ move ! (1 ∷ []) $ split ! $ move ! (1 ∷ []) $ split ! $ move ! (1 ∷ []) $ split ! $ move ! (1 ∷ []) $ drop ! $
-        move ! (8 ∷ []) $ use1 W (‵ Own-hash ⊛ ‵ Own-hash) (shr-slice-copy 𝓤 H A W (named 5) κ-hash u8 .twice x-hash (s-hash ∷ [])) $ split ! $ move ! (9 ∷ []) $ use1 W (‵ Own-deps ⊛ ‵ Own-deps) (shr-slice-copy 𝓤 H A W (named 6) κ-deps u8 .twice x-deps (s-deps ∷ [])) $ split ! $
-        move ! (72 ∷ []) $ use1 W (‵ (partAt (Array u32 E.room) fullShare E.blank l₁₂ 0)) (L.made 𝓤 H A W (named 1) E.room l₁₂) $ move ! (71 ∷ []) $ use1 W (‵ (partAt (Array u32 E.room) fullShare E.blank l₁₃ 0)) (L.made 𝓤 H A W (named 1) E.room l₁₃) $
-        lft-new ! tt (λ α. move ! (16 ∷ 11 ∷ []) $ use2 W (later (some (λ (ε₀ : GName). ‵ (ShrSlice (named 0) (α ∷ []) T.the-row .own (r-edges ε₀ edges) (s-edges ∷ [])) ⊛ ‵ (LentShared T.the-row κ-edges (α ∷ []) q-edges γ-edges b-edges o-edges edges)))) (shares-slice T.the-row κ-edges (α ∷ []) q-edges γ-edges b-edges o-edges 𝓤 H A W (named 0) (named 0) edges) $ await ! tt $ pick ! (λ ε. split ! $
-        lft-new ! tt (λ ν. move ! (5 ∷ []) $ use1 W (later (some (λ (δ₀ : GName). given (length E.blank ≡ E.room) (‵ (MutSlice (named 1) (ν ∷ []) u32 .own (L.at-list l₁₂ δ₀ E.blank) (L.s l₁₂ E.room ∷ [])) ⊛ ‵ (flent (ν ∷ []) (Held u32 E.room l₁₂ 0 δ₀)))))) (L.lends-array 𝓤 H A W (named 1) E.room (ν ∷ []) l₁₂ room-n E.blank) $ await ! tt $ pick ! (λ δ. learn ! (λ e₃. split ! $
-        lft-new ! tt (λ ν′. move ! (7 ∷ []) $ use1 W (later (some (λ (δ₀ : GName). given (length E.blank ≡ E.room) (‵ (MutSlice (named 1) (ν′ ∷ []) u32 .own (L.at-list l₁₃ δ₀ E.blank) (L.s l₁₃ E.room ∷ [])) ⊛ ‵ (flent (ν′ ∷ []) (Held u32 E.room l₁₃ 0 δ₀)))))) (L.lends-array 𝓤 H A W (named 1) E.room (ν′ ∷ []) l₁₃ room-n E.blank) $ await ! tt $ pick ! (λ δ′. learn ! (λ e₄. split ! $
-        move ! (5 ∷ 2 ∷ []) $ join ! $ move ! (7 ∷ 0 ∷ []) $ join ! $ move ! (3 ∷ 1 ∷ []) $ join ! $ move ! (1 ∷ 4 ∷ 0 ∷ []) $ use3 W (raw (Unpack 𝓤 H A mem run .pre (to-unpack α ν ν′ ε δ δ′ l₁₂ l₁₃))) (goes-unpack α ν ν′ ε δ δ′ l₁₂ l₁₃) $
-        -- [pre; L·13; L·12; Le; p·deps; k·deps; p·hash; k·hash; κ·deps; κ·hash; κ·counts; κ·clocks; κ·nodes; κ·hashes; p·counts; p·clocks; p·nodes; p·hashes; _40; _39; _38; _37; _36; _35; _34; _33; _32; _31; _30; _29; _28; _27; _26; _25; _24; _23; _22; _21; _20; _19; _18; _17; _16; _15; _14; _11; _10; _9; _8; _7; _6; _5; _4; _3; _2; _1; _0]
-        calls-at ! fm (Unpack 𝓤 H A mem run) known-unpack (to-unpack α ν ν′ ε δ δ′ l₁₂ l₁₃) (and-then ! (load ! (from ! (stop !)) (look ! 62 refl)) (and-then ! (load ! (from ! (stop !)) (look ! 58 refl)) (and-then ! (load ! (from ! (stop !)) (look ! 54 refl)) (no-more !)))) (λ v.
-        use1 W (later (some (λ (y : Unit {0}). ((‵ (flft (α ∷ []) fullShare) ⊛ ‵ (flft (ν ∷ []) fullShare) ⊛ ‵ (flft (ν′ ∷ []) fullShare) ⊛ ‵ ftrue) ⊛ ‵ (unit .own y (v ∷ []))) ⊛ raw (ensured 𝓤 H A unpack.ended (unpack.clauses 𝓤 H A mem run) (α ∷ [], (ν ∷ [], (ν′ ∷ [], tt))) (r-edges ε edges, (L.at-list l₁₂ δ E.blank, (L.at-list l₁₃ δ′ E.blank, tt))) tt y)))) (id⊢ 𝓤 _) $ await ! tt $ pick ! (λ y. split ! $
-        move ! (1 ∷ []) $ use1 W (some (λ (zs : Unit {0} × (List ℕ × (List ℕ × Unit {0}))). ‵ (lasts unpack.ended (α ∷ [], (ν ∷ [], (ν′ ∷ [], tt))) (r-edges ε edges, (L.at-list l₁₂ δ E.blank, (L.at-list l₁₃ δ′ E.blank, tt))) zs) ⊛ raw (fact 𝓤 (Unpacked (zs .1 .0) (zs .1 .1 .0))))) (id⊢ 𝓤 _) $ pick ! (λ zs. split ! $ move ! (1 ∷ []) $ heard ! (Unpacked (zs .1 .0) (zs .1 .1 .0)) (λ u.
+        move ! (89 ∷ []) $ fsplit ! $ move ! (1 ∷ []) $ fsplit ! $ move ! (1 ∷ []) $ fsplit ! $ move ! (1 ∷ []) $ fsplit ! $ move ! (1 ∷ []) $ fsplit ! $ move ! (1 ∷ []) $ fsplit ! $ move ! (1 ∷ []) $ fsplit ! $ drop ! $ fsplit ! $ drop ! $ fsplit ! $ drop ! $ fsplit ! $ drop ! $ fsplit ! $ move ! (1 ∷ []) $ fsplit ! $ move ! (1 ∷ []) $ drop ! $ move ! (96 ∷ []) $ split ! $ move ! (1 ∷ []) $ split ! $ move ! (1 ∷ []) $ split ! $ move ! (1 ∷ []) $ split ! $ move ! (1 ∷ []) $ split ! $ move ! (1 ∷ []) $ split ! $ move ! (1 ∷ []) $ split ! $ move ! (1 ∷ []) $ split ! $ move ! (1 ∷ []) $ drop ! $
+        move ! (10 ∷ []) $ use1 W (‵ Own-hash ⊛ ‵ Own-hash) (shr-slice-copy 𝓤 H A W (named 5) κ-hash u8 .twice x-hash (s-hash ∷ [])) $ split ! $ move ! (11 ∷ []) $ use1 W (‵ Own-deps ⊛ ‵ Own-deps) (shr-slice-copy 𝓤 H A W (named 6) κ-deps u8 .twice x-deps (s-deps ∷ [])) $ split ! $
+        move ! (78 ∷ []) $ use1 W (‵ (partAt (Array u32 E.room) fullShare E.blank l₁₃ 0)) (L.made 𝓤 H A W (named 1) E.room l₁₃) $ move ! (77 ∷ []) $ use1 W (‵ (partAt (Array u32 E.room) fullShare E.blank l₁₄ 0)) (L.made 𝓤 H A W (named 1) E.room l₁₄) $
+        lft-new ! tt (λ α. move ! (18 ∷ 12 ∷ []) $ use2 W (later (some (λ (ε₀ : GName). ‵ (ShrSlice (named 0) (α ∷ []) T.the-row .own (r-edges ε₀ edges) (s-edges ∷ [])) ⊛ ‵ (LentShared T.the-row κ-edges (α ∷ []) q-edges γ-edges b-edges o-edges edges)))) (shares-slice T.the-row κ-edges (α ∷ []) q-edges γ-edges b-edges o-edges 𝓤 H A W (named 0) (named 0) edges) $ await ! tt $ pick ! (λ ε. split ! $
+        lft-new ! tt (λ ν. move ! (5 ∷ []) $ use1 W (later (some (λ (δ₀ : GName). given (length E.blank ≡ E.room) (‵ (MutSlice (named 1) (ν ∷ []) u32 .own (L.at-list l₁₃ δ₀ E.blank) (L.s l₁₃ E.room ∷ [])) ⊛ ‵ (flent (ν ∷ []) (Held u32 E.room l₁₃ 0 δ₀)))))) (L.lends-array 𝓤 H A W (named 1) E.room (ν ∷ []) l₁₃ room-n E.blank) $ await ! tt $ pick ! (λ δ. learn ! (λ e₃. split ! $
+        lft-new ! tt (λ ν′. move ! (7 ∷ []) $ use1 W (later (some (λ (δ₀ : GName). given (length E.blank ≡ E.room) (‵ (MutSlice (named 1) (ν′ ∷ []) u32 .own (L.at-list l₁₄ δ₀ E.blank) (L.s l₁₄ E.room ∷ [])) ⊛ ‵ (flent (ν′ ∷ []) (Held u32 E.room l₁₄ 0 δ₀)))))) (L.lends-array 𝓤 H A W (named 1) E.room (ν′ ∷ []) l₁₄ room-n E.blank) $ await ! tt $ pick ! (λ δ′. learn ! (λ e₄. split ! $
+        move ! (5 ∷ 2 ∷ []) $ join ! $ move ! (7 ∷ 0 ∷ []) $ join ! $ move ! (3 ∷ 1 ∷ []) $ join ! $ move ! (1 ∷ 4 ∷ 0 ∷ []) $ use3 W (raw (Unpack 𝓤 H A mem run .pre (to-unpack α ν ν′ ε δ δ′ l₁₃ l₁₄))) (goes-unpack α ν ν′ ε δ δ′ l₁₃ l₁₄) $
+        -- [pre; L·14; L·13; Le; p·deps; k·deps; p·hash; k·hash; κ·unknown; κ·deps; κ·hash; κ·counts; κ·clocks; κ·nodes; κ·hashes; p·unknown; p·counts; p·clocks; p·nodes; p·hashes; _43; _42; _41; _40; _39; _38; _37; _36; _35; _34; _33; _32; _31; _30; _29; _28; _27; _26; _25; _24; _23; _22; _21; _20; _19; _18; _17; _16; _15; _12; _11; _10; _9; _8; _7; _6; _5; _4; _3; _2; _1; _0]
+        calls-at ! fm (Unpack 𝓤 H A mem run) known-unpack (to-unpack α ν ν′ ε δ δ′ l₁₃ l₁₄) (and-then ! (load ! (from ! (stop !)) (look ! 68 refl)) (and-then ! (load ! (from ! (stop !)) (look ! 64 refl)) (and-then ! (load ! (from ! (stop !)) (look ! 60 refl)) (no-more !)))) (λ v.
+        use1 W (later (some (λ (y : Unit {0}). ((‵ (flft (α ∷ []) fullShare) ⊛ ‵ (flft (ν ∷ []) fullShare) ⊛ ‵ (flft (ν′ ∷ []) fullShare) ⊛ ‵ ftrue) ⊛ ‵ (unit .own y (v ∷ []))) ⊛ raw (ensured 𝓤 H A unpack.ended (unpack.clauses 𝓤 H A mem run) (α ∷ [], (ν ∷ [], (ν′ ∷ [], tt))) (r-edges ε edges, (L.at-list l₁₃ δ E.blank, (L.at-list l₁₄ δ′ E.blank, tt))) tt y)))) (id⊢ 𝓤 _) $ await ! tt $ pick ! (λ y. split ! $
+        move ! (1 ∷ []) $ use1 W (some (λ (zs : Unit {0} × (List ℕ × (List ℕ × Unit {0}))). ‵ (lasts unpack.ended (α ∷ [], (ν ∷ [], (ν′ ∷ [], tt))) (r-edges ε edges, (L.at-list l₁₃ δ E.blank, (L.at-list l₁₄ δ′ E.blank, tt))) zs) ⊛ raw (fact 𝓤 (Unpacked (zs .1 .0) (zs .1 .1 .0))))) (id⊢ 𝓤 _) $ pick ! (λ zs. split ! $ move ! (1 ∷ []) $ heard ! (Unpacked (zs .1 .0) (zs .1 .1 .0)) (λ u.
         fsplit ! $ drop ! $ fsplit ! $ fsplit ! $ move ! (1 ∷ []) $ feqL ! (λ _. move ! (1 ∷ []) $ fsplit ! $ fsplit ! $ move ! (1 ∷ []) $ feqL ! (λ _. move ! (1 ∷ []) $ drop ! $
-        move ! (2 ∷ []) $ split ! $ move ! (1 ∷ []) $ feqL ! (λ iy. land ! (from ! (stop !)) (init ! 68 refl (subst (λ (u₀ : Val). Holds (hasTy tyUnit u₀) × WT u₀) (sym (ap only iy)) (tt, tt))) $
-        split ! $ move ! (1 ∷ []) $ split ! $ move ! (1 ∷ []) $ split ! $ move ! (1 ∷ []) $ drop ! $ move ! (1 ∷ []) $ lft-end ! tt $ move ! (0 ∷ 6 ∷ 4 ∷ []) $ use3 W (later (‵ (partAt (Array u32 E.room) fullShare (zs .1 .0) l₁₂ 0))) (L.array-back 𝓤 H A W (named 1) E.room (ν ∷ []) l₁₂ room-n δ (zs .1 .0)) $ await ! tt $
-        move ! (1 ∷ []) $ lft-end ! tt $ move ! (0 ∷ 4 ∷ 3 ∷ []) $ use3 W (later (‵ (partAt (Array u32 E.room) fullShare (zs .1 .1 .0) l₁₃ 0))) (L.array-back 𝓤 H A W (named 1) E.room (ν′ ∷ []) l₁₃ room-n δ′ (zs .1 .1 .0)) $ await ! tt $
+        move ! (2 ∷ []) $ split ! $ move ! (1 ∷ []) $ feqL ! (λ iy. land ! (from ! (stop !)) (init ! 74 refl (subst (λ (u₀ : Val). Holds (hasTy tyUnit u₀) × WT u₀) (sym (ap only iy)) (tt, tt))) $
+        split ! $ move ! (1 ∷ []) $ split ! $ move ! (1 ∷ []) $ split ! $ move ! (1 ∷ []) $ drop ! $ move ! (1 ∷ []) $ lft-end ! tt $ move ! (0 ∷ 6 ∷ 4 ∷ []) $ use3 W (later (‵ (partAt (Array u32 E.room) fullShare (zs .1 .0) l₁₃ 0))) (L.array-back 𝓤 H A W (named 1) E.room (ν ∷ []) l₁₃ room-n δ (zs .1 .0)) $ await ! tt $
+        move ! (1 ∷ []) $ lft-end ! tt $ move ! (0 ∷ 4 ∷ 3 ∷ []) $ use3 W (later (‵ (partAt (Array u32 E.room) fullShare (zs .1 .1 .0) l₁₄ 0))) (L.array-back 𝓤 H A W (named 1) E.room (ν′ ∷ []) l₁₄ room-n δ′ (zs .1 .1 .0)) $ await ! tt $
         move ! (2 ∷ []) $ lft-end ! tt $ move ! (0 ∷ 3 ∷ []) $ use2 W (later (‵ (MutSlice (named 0) κ-edges T.the-row .own (r-edges γ-edges edges) (s-edges ∷ [])) ⊛ ‵ (flft κ-edges q-edges))) (shared-back T.the-row κ-edges (α ∷ []) q-edges γ-edges b-edges o-edges 𝓤 H A W (named 0) (named 0) edges edges-room) $ await ! tt $ split ! $
-        -- [p·edges; κ·edges; _13; _12; p·deps; k·deps; p·hash; k·hash; κ·deps; κ·hash; κ·counts; κ·clocks; κ·nodes; κ·hashes; p·counts; p·clocks; p·nodes; p·hashes; _40; _39; _38; _37; _36; _35; _34; _33; _32; _31; _30; _29; _28; _27; _26; _25; _24; _23; _22; _21; _20; _19; _18; _17; _16; _15; _14; _11; _10; _9; _8; _7; _6; _5; _4; _3; _2; _1; _0]
+        -- [p·edges; κ·edges; _14; _13; p·deps; k·deps; p·hash; k·hash; κ·unknown; κ·deps; κ·hash; κ·counts; κ·clocks; κ·nodes; κ·hashes; p·unknown; p·counts; p·clocks; p·nodes; p·hashes; _43; _42; _41; _40; _39; _38; _37; _36; _35; _34; _33; _32; _31; _30; _29; _28; _27; _26; _25; _24; _23; _22; _21; _20; _19; _18; _17; _16; _15; _12; _11; _10; _9; _8; _7; _6; _5; _4; _3; _2; _1; _0]
         -- the core
-        assigns ! (addr ! (from ! (fld ! refl (hop ! (look-in ! 94 (sub ! 0 refl (whole !))) (stop !))))) (from ! (stop !)) (init ! 52 refl (tt, tt)) $ assigns ! (agg ! (and-then ! (load ! (from ! (stop !)) (look ! 52 refl)) (and-then ! (load ! (from ! (fld ! refl (stop !))) (look-in ! 94 (sub ! 1 refl (whole !)))) (no-more !)))) (from ! (stop !)) (init ! 50 refl (tt, (tt, (record { fits = hashes-room .0 }, tt)))) $
-        assigns ! (addr ! (from ! (fld ! refl (hop ! (look-in ! 92 (sub ! 0 refl (whole !))) (stop !))))) (from ! (stop !)) (init ! 48 refl (tt, tt)) $ assigns ! (agg ! (and-then ! (load ! (from ! (stop !)) (look ! 48 refl)) (and-then ! (load ! (from ! (fld ! refl (stop !))) (look-in ! 92 (sub ! 1 refl (whole !)))) (no-more !)))) (from ! (stop !)) (init ! 46 refl (tt, (tt, (record { fits = nodes-room .0 }, tt)))) $
-        assigns ! (addr ! (from ! (stop !))) (from ! (stop !)) (init ! 44 refl (tt, tt)) $ assigns ! (agg ! (and-then ! (load ! (from ! (stop !)) (look ! 44 refl)) (and-then ! (L.lit-big ! (record { fits = lit< tt })) (no-more !)))) (from ! (stop !)) (init ! 42 refl (tt, (tt, (record { fits = lit< tt }, tt)))) $
-        assigns ! (addr ! (from ! (stop !))) (from ! (stop !)) (init ! 40 refl (tt, tt)) $ assigns ! (agg ! (and-then ! (load ! (from ! (stop !)) (look ! 40 refl)) (and-then ! (L.lit-big ! (record { fits = lit< tt })) (no-more !)))) (from ! (stop !)) (init ! 38 refl (tt, (tt, (record { fits = lit< tt }, tt)))) $
-        assigns ! (addr ! (from ! (fld ! refl (hop ! (look-in ! 88 (sub ! 0 refl (whole !))) (stop !))))) (from ! (stop !)) (init ! 36 refl (tt, tt)) $ assigns ! (agg ! (and-then ! (load ! (from ! (stop !)) (look ! 36 refl)) (and-then ! (load ! (from ! (fld ! refl (stop !))) (look-in ! 88 (sub ! 1 refl (whole !)))) (no-more !)))) (from ! (stop !)) (init ! 34 refl (tt, (tt, (record { fits = clocks-room .0 }, tt)))) $
-        assigns ! (addr ! (from ! (fld ! refl (hop ! (look-in ! 86 (sub ! 0 refl (whole !))) (stop !))))) (from ! (stop !)) (init ! 32 refl (tt, tt)) $ assigns ! (agg ! (and-then ! (load ! (from ! (stop !)) (look ! 32 refl)) (and-then ! (load ! (from ! (fld ! refl (stop !))) (look-in ! 86 (sub ! 1 refl (whole !)))) (no-more !)))) (from ! (stop !)) (init ! 30 refl (tt, (tt, (record { fits = counts-room .0 }, tt)))) $
-        lft-new ! tt (λ μ. move ! (4 ∷ []) $ use1 W (later (some (λ (δ₀ : GName). given (length (zs .1 .0) ≡ E.room) (‵ (MutSlice (named 1) (μ ∷ []) u32 .own (L.at-list l₁₂ δ₀ (zs .1 .0)) (L.s l₁₂ E.room ∷ [])) ⊛ ‵ (flent (μ ∷ []) (Held u32 E.room l₁₂ 0 δ₀)))))) (L.lends-array 𝓤 H A W (named 1) E.room (μ ∷ []) l₁₂ room-n (zs .1 .0)) $ await ! tt $ pick ! (λ ζ. learn ! (λ h₃. split ! $
-        lft-new ! tt (λ μ′. move ! (6 ∷ []) $ use1 W (later (some (λ (δ₀ : GName). given (length (zs .1 .1 .0) ≡ E.room) (‵ (MutSlice (named 1) (μ′ ∷ []) u32 .own (L.at-list l₁₃ δ₀ (zs .1 .1 .0)) (L.s l₁₃ E.room ∷ [])) ⊛ ‵ (flent (μ′ ∷ []) (Held u32 E.room l₁₃ 0 δ₀)))))) (L.lends-array 𝓤 H A W (named 1) E.room (μ′ ∷ []) l₁₃ room-n (zs .1 .1 .0)) $ await ! tt $ pick ! (λ ζ′. learn ! (λ h₄. split ! $
-        move ! (13 ∷ 12 ∷ []) $ join ! $ move ! (13 ∷ 0 ∷ []) $ join ! $ move ! (13 ∷ 0 ∷ []) $ join ! $ move ! (3 ∷ 0 ∷ []) $ join ! $ move ! (5 ∷ 0 ∷ []) $ join ! $ move ! (11 ∷ 0 ∷ []) $ join ! $ move ! (11 ∷ 0 ∷ []) $ join ! $ move ! (9 ∷ 7 ∷ []) $ join ! $ move ! (10 ∷ 0 ∷ []) $ join ! $ move ! (10 ∷ 0 ∷ []) $ join ! $ move ! (2 ∷ 0 ∷ []) $ join ! $ move ! (3 ∷ 0 ∷ []) $ join ! $ move ! (8 ∷ 0 ∷ []) $ join ! $ move ! (8 ∷ 0 ∷ []) $ join ! $ move ! (1 ∷ 0 ∷ []) $ use2 W (raw (Core 𝓤 H A mem run .pre (to-core μ μ′ ζ ζ′ l₁₂ l₁₃ (zs .1 .0) (zs .1 .1 .0)))) (goes-core μ μ′ ζ ζ′ l₁₂ l₁₃ (zs .1 .0) (zs .1 .1 .0)) $
-        calls-at ! fm (Core 𝓤 H A mem run) known-core (to-core μ μ′ ζ ζ′ l₁₂ l₁₃ (zs .1 .0) (zs .1 .1 .0)) (and-then ! (load ! (from ! (stop !)) (look ! 39 refl)) (and-then ! (load ! (from ! (stop !)) (look ! 35 refl)) (and-then ! (load ! (from ! (stop !)) (look ! 31 refl)) (and-then ! (load ! (from ! (stop !)) (look ! 27 refl)) (and-then ! (load ! (from ! (stop !)) (look ! 59 refl)) (and-then ! (load ! (from ! (stop !)) (look ! 23 refl)) (and-then ! (load ! (from ! (stop !)) (look ! 19 refl)) (and-then ! (load ! (from ! (stop !)) (look ! 73 refl)) (and-then ! (load ! (from ! (stop !)) (look ! 71 refl)) (and-then ! (load ! (from ! (stop !)) (look ! 69 refl)) (and-then ! (load ! (from ! (stop !)) (look ! 67 refl)) (and-then ! (load ! (from ! (stop !)) (look ! 65 refl)) (and-then ! (load ! (from ! (stop !)) (look ! 63 refl)) (no-more !)))))))))))))) (λ v′.
-        use1 W (later (some (λ (r : ℕ). ((‵ (flft (κ-hashes) q-hashes) ⊛ ‵ (flft (κ-nodes) q-nodes) ⊛ ‵ (flft (μ ∷ []) fullShare) ⊛ ‵ (flft (μ′ ∷ []) fullShare) ⊛ ‵ (flft (κ-clocks) q-clocks) ⊛ ‵ (flft (κ-counts) q-counts) ⊛ ‵ (flft (κ-hash) q-hash) ⊛ ‵ (flft (κ-deps) q-deps) ⊛ ‵ ftrue) ⊛ ‵ (u32 .own r (v′ ∷ []))) ⊛ raw (ensured 𝓤 H A core.ended (core.clauses 𝓤 H A mem run) (κ-hashes, (κ-nodes, (μ ∷ [], (μ′ ∷ [], (κ-clocks, (κ-counts, (κ-hash, (κ-deps, tt)))))))) (x-hashes, (x-nodes, (L.at-list l₁₂ ζ (zs .1 .0), (L.at-list l₁₃ ζ′ (zs .1 .1 .0), (length edges, (x-clocks, (x-counts, (x-hash, (actor, (seq, (max, (ops, (x-deps, tt))))))))))))) tt r)))) (id⊢ 𝓤 _) $ await ! tt $ pick ! (λ r. split ! $
-        move ! (1 ∷ []) $ use1 W (some (λ (ys : List ℕ × (List ℕ × (List ℕ × (List ℕ × (Unit {0} × (List ℕ × (List ℕ × (Unit {0} × (Unit {0} × (Unit {0} × (Unit {0} × (Unit {0} × (Unit {0} × Unit {0}))))))))))))). ‵ (lasts core.ended (κ-hashes, (κ-nodes, (μ ∷ [], (μ′ ∷ [], (κ-clocks, (κ-counts, (κ-hash, (κ-deps, tt)))))))) (x-hashes, (x-nodes, (L.at-list l₁₂ ζ (zs .1 .0), (L.at-list l₁₃ ζ′ (zs .1 .1 .0), (length edges, (x-clocks, (x-counts, (x-hash, (actor, (seq, (max, (ops, (x-deps, tt))))))))))))) ys) ⊛ raw (fact 𝓤 (Cored r (zs .1 .0) (zs .1 .1 .0) (ys .0) (ys .1 .0) (ys .1 .1 .0) (ys .1 .1 .1 .0) (ys .1 .1 .1 .1 .1 .0) (ys .1 .1 .1 .1 .1 .1 .0))))) (id⊢ 𝓤 _) $ pick ! (λ ys. split ! $ move ! (1 ∷ []) $ heard ! (Cored r (zs .1 .0) (zs .1 .1 .0) (ys .0) (ys .1 .0) (ys .1 .1 .0) (ys .1 .1 .1 .0) (ys .1 .1 .1 .1 .1 .0) (ys .1 .1 .1 .1 .1 .1 .0)) (λ c.
-        fsplit ! $ fsplit ! $ move ! (1 ∷ []) $ feqL ! (λ l-hashes. move ! (1 ∷ []) $ fsplit ! $ fsplit ! $ move ! (1 ∷ []) $ feqL ! (λ l-nodes. move ! (1 ∷ []) $ fsplit ! $ fsplit ! $ move ! (1 ∷ []) $ feqL ! (λ _. move ! (1 ∷ []) $ fsplit ! $ fsplit ! $ move ! (1 ∷ []) $ feqL ! (λ _. move ! (1 ∷ []) $ fsplit ! $ drop ! $ fsplit ! $ fsplit ! $ move ! (1 ∷ []) $ feqL ! (λ l-clocks. move ! (1 ∷ []) $ fsplit ! $ fsplit ! $ move ! (1 ∷ []) $ feqL ! (λ l-counts. move ! (1 ∷ []) $ fsplit ! $ drop ! $ fsplit ! $ drop ! $ fsplit ! $ drop ! $ fsplit ! $ drop ! $ fsplit ! $ drop ! $ fsplit ! $ drop ! $ drop ! $
-        move ! (6 ∷ []) $ split ! $ move ! (1 ∷ []) $ peeks ! u32 (Is u32) (shows 𝓤 H A u32) r (v′ ∷ []) (λ ir. land ! (from ! (stop !)) (init ! 64 refl (uint-lawful 𝓤 H A W w32 .typed r _ ir .0)) $
-        move ! (1 ∷ []) $ split ! $ move ! (1 ∷ []) $ split ! $ move ! (1 ∷ []) $ split ! $ move ! (1 ∷ []) $ split ! $ move ! (1 ∷ []) $ split ! $ move ! (1 ∷ []) $ split ! $ move ! (1 ∷ []) $ split ! $ move ! (1 ∷ []) $ split ! $ move ! (1 ∷ []) $ drop ! $ move ! (5 ∷ []) $ lft-end ! tt $ move ! (0 ∷ 16 ∷ 12 ∷ []) $ use3 W (later (‵ (partAt (Array u32 E.room) fullShare (ys .1 .1 .0) l₁₂ 0))) (L.array-back 𝓤 H A W (named 1) E.room (μ ∷ []) l₁₂ room-n ζ (ys .1 .1 .0)) $ await ! tt $
-        move ! (5 ∷ []) $ lft-end ! tt $ move ! (0 ∷ 14 ∷ 11 ∷ []) $ use3 W (later (‵ (partAt (Array u32 E.room) fullShare (ys .1 .1 .1 .0) l₁₃ 0))) (L.array-back 𝓤 H A W (named 1) E.room (μ′ ∷ []) l₁₃ room-n ζ′ (ys .1 .1 .1 .0)) $ await ! tt $
+        assigns ! (addr ! (from ! (fld ! refl (hop ! (look-in ! 102 (sub ! 0 refl (whole !))) (stop !))))) (from ! (stop !)) (init ! 58 refl (tt, tt)) $ assigns ! (agg ! (and-then ! (load ! (from ! (stop !)) (look ! 58 refl)) (and-then ! (load ! (from ! (fld ! refl (stop !))) (look-in ! 102 (sub ! 1 refl (whole !)))) (no-more !)))) (from ! (stop !)) (init ! 56 refl (tt, (tt, (record { fits = hashes-room .0 }, tt)))) $
+        assigns ! (addr ! (from ! (fld ! refl (hop ! (look-in ! 100 (sub ! 0 refl (whole !))) (stop !))))) (from ! (stop !)) (init ! 54 refl (tt, tt)) $ assigns ! (agg ! (and-then ! (load ! (from ! (stop !)) (look ! 54 refl)) (and-then ! (load ! (from ! (fld ! refl (stop !))) (look-in ! 100 (sub ! 1 refl (whole !)))) (no-more !)))) (from ! (stop !)) (init ! 52 refl (tt, (tt, (record { fits = nodes-room .0 }, tt)))) $
+        assigns ! (addr ! (from ! (stop !))) (from ! (stop !)) (init ! 50 refl (tt, tt)) $ assigns ! (agg ! (and-then ! (load ! (from ! (stop !)) (look ! 50 refl)) (and-then ! (L.lit-big ! (record { fits = lit< tt })) (no-more !)))) (from ! (stop !)) (init ! 48 refl (tt, (tt, (record { fits = lit< tt }, tt)))) $
+        assigns ! (addr ! (from ! (stop !))) (from ! (stop !)) (init ! 46 refl (tt, tt)) $ assigns ! (agg ! (and-then ! (load ! (from ! (stop !)) (look ! 46 refl)) (and-then ! (L.lit-big ! (record { fits = lit< tt })) (no-more !)))) (from ! (stop !)) (init ! 44 refl (tt, (tt, (record { fits = lit< tt }, tt)))) $
+        assigns ! (addr ! (from ! (fld ! refl (hop ! (look-in ! 96 (sub ! 0 refl (whole !))) (stop !))))) (from ! (stop !)) (init ! 42 refl (tt, tt)) $ assigns ! (agg ! (and-then ! (load ! (from ! (stop !)) (look ! 42 refl)) (and-then ! (load ! (from ! (fld ! refl (stop !))) (look-in ! 96 (sub ! 1 refl (whole !)))) (no-more !)))) (from ! (stop !)) (init ! 40 refl (tt, (tt, (record { fits = clocks-room .0 }, tt)))) $
+        assigns ! (addr ! (from ! (fld ! refl (hop ! (look-in ! 94 (sub ! 0 refl (whole !))) (stop !))))) (from ! (stop !)) (init ! 38 refl (tt, tt)) $ assigns ! (agg ! (and-then ! (load ! (from ! (stop !)) (look ! 38 refl)) (and-then ! (load ! (from ! (fld ! refl (stop !))) (look-in ! 94 (sub ! 1 refl (whole !)))) (no-more !)))) (from ! (stop !)) (init ! 36 refl (tt, (tt, (record { fits = counts-room .0 }, tt)))) $
+        assigns ! (addr ! (from ! (fld ! refl (hop ! (look-in ! 80 (sub ! 0 refl (whole !))) (stop !))))) (from ! (stop !)) (init ! 34 refl (tt, tt)) $ assigns ! (agg ! (and-then ! (load ! (from ! (stop !)) (look ! 34 refl)) (and-then ! (load ! (from ! (fld ! refl (stop !))) (look-in ! 80 (sub ! 1 refl (whole !)))) (no-more !)))) (from ! (stop !)) (init ! 32 refl (tt, (tt, (record { fits = unknown-room .0 }, tt)))) $
+        lft-new ! tt (λ μ. move ! (4 ∷ []) $ use1 W (later (some (λ (δ₀ : GName). given (length (zs .1 .0) ≡ E.room) (‵ (MutSlice (named 1) (μ ∷ []) u32 .own (L.at-list l₁₃ δ₀ (zs .1 .0)) (L.s l₁₃ E.room ∷ [])) ⊛ ‵ (flent (μ ∷ []) (Held u32 E.room l₁₃ 0 δ₀)))))) (L.lends-array 𝓤 H A W (named 1) E.room (μ ∷ []) l₁₃ room-n (zs .1 .0)) $ await ! tt $ pick ! (λ ζ. learn ! (λ h₃. split ! $
+        lft-new ! tt (λ μ′. move ! (6 ∷ []) $ use1 W (later (some (λ (δ₀ : GName). given (length (zs .1 .1 .0) ≡ E.room) (‵ (MutSlice (named 1) (μ′ ∷ []) u32 .own (L.at-list l₁₄ δ₀ (zs .1 .1 .0)) (L.s l₁₄ E.room ∷ [])) ⊛ ‵ (flent (μ′ ∷ []) (Held u32 E.room l₁₄ 0 δ₀)))))) (L.lends-array 𝓤 H A W (named 1) E.room (μ′ ∷ []) l₁₄ room-n (zs .1 .1 .0)) $ await ! tt $ pick ! (λ ζ′. learn ! (λ h₄. split ! $
+        move ! (13 ∷ 12 ∷ []) $ join ! $ move ! (13 ∷ 0 ∷ []) $ join ! $ move ! (13 ∷ 0 ∷ []) $ join ! $ move ! (13 ∷ 0 ∷ []) $ join ! $ move ! (3 ∷ 0 ∷ []) $ join ! $ move ! (5 ∷ 0 ∷ []) $ join ! $ move ! (11 ∷ 0 ∷ []) $ join ! $ move ! (11 ∷ 0 ∷ []) $ join ! $ move ! (7 ∷ 11 ∷ []) $ join ! $ move ! (9 ∷ 0 ∷ []) $ join ! $ move ! (10 ∷ 0 ∷ []) $ join ! $ move ! (10 ∷ 0 ∷ []) $ join ! $ move ! (2 ∷ 0 ∷ []) $ join ! $ move ! (3 ∷ 0 ∷ []) $ join ! $ move ! (8 ∷ 0 ∷ []) $ join ! $ move ! (8 ∷ 0 ∷ []) $ join ! $ move ! (1 ∷ 0 ∷ []) $ use2 W (raw (Core 𝓤 H A mem run .pre (to-core μ μ′ ζ ζ′ l₁₃ l₁₄ (zs .1 .0) (zs .1 .1 .0)))) (goes-core μ μ′ ζ ζ′ l₁₃ l₁₄ (zs .1 .0) (zs .1 .1 .0)) $
+        calls-at ! fm (Core 𝓤 H A mem run) known-core (to-core μ μ′ ζ ζ′ l₁₃ l₁₄ (zs .1 .0) (zs .1 .1 .0)) (and-then ! (load ! (from ! (stop !)) (look ! 43 refl)) (and-then ! (load ! (from ! (stop !)) (look ! 39 refl)) (and-then ! (load ! (from ! (stop !)) (look ! 35 refl)) (and-then ! (load ! (from ! (stop !)) (look ! 31 refl)) (and-then ! (load ! (from ! (stop !)) (look ! 63 refl)) (and-then ! (load ! (from ! (stop !)) (look ! 27 refl)) (and-then ! (load ! (from ! (stop !)) (look ! 23 refl)) (and-then ! (load ! (from ! (stop !)) (look ! 79 refl)) (and-then ! (load ! (from ! (stop !)) (look ! 77 refl)) (and-then ! (load ! (from ! (stop !)) (look ! 75 refl)) (and-then ! (load ! (from ! (stop !)) (look ! 73 refl)) (and-then ! (load ! (from ! (stop !)) (look ! 71 refl)) (and-then ! (load ! (from ! (stop !)) (look ! 69 refl)) (and-then ! (load ! (from ! (stop !)) (look ! 19 refl)) (no-more !))))))))))))))) (λ v′.
+        use1 W (later (some (λ (r : ℕ). ((‵ (flft (κ-hashes) q-hashes) ⊛ ‵ (flft (κ-nodes) q-nodes) ⊛ ‵ (flft (μ ∷ []) fullShare) ⊛ ‵ (flft (μ′ ∷ []) fullShare) ⊛ ‵ (flft (κ-clocks) q-clocks) ⊛ ‵ (flft (κ-counts) q-counts) ⊛ ‵ (flft (κ-hash) q-hash) ⊛ ‵ (flft (κ-deps) q-deps) ⊛ ‵ (flft (κ-unknown) q-unknown) ⊛ ‵ ftrue) ⊛ ‵ (u32 .own r (v′ ∷ []))) ⊛ raw (ensured 𝓤 H A core.ended (core.clauses 𝓤 H A mem run) (κ-hashes, (κ-nodes, (μ ∷ [], (μ′ ∷ [], (κ-clocks, (κ-counts, (κ-hash, (κ-deps, (κ-unknown, tt))))))))) (x-hashes, (x-nodes, (L.at-list l₁₃ ζ (zs .1 .0), (L.at-list l₁₄ ζ′ (zs .1 .1 .0), (length edges, (x-clocks, (x-counts, (x-hash, (actor, (seq, (max, (ops, (x-deps, (x-unknown, tt)))))))))))))) tt r)))) (id⊢ 𝓤 _) $ await ! tt $ pick ! (λ r. split ! $
+        move ! (1 ∷ []) $ use1 W (some (λ (ys : List ℕ × (List ℕ × (List ℕ × (List ℕ × (Unit {0} × (List ℕ × (List ℕ × (Unit {0} × (Unit {0} × (Unit {0} × (Unit {0} × (Unit {0} × (Unit {0} × (List ℕ × Unit {0})))))))))))))). ‵ (lasts core.ended (κ-hashes, (κ-nodes, (μ ∷ [], (μ′ ∷ [], (κ-clocks, (κ-counts, (κ-hash, (κ-deps, (κ-unknown, tt))))))))) (x-hashes, (x-nodes, (L.at-list l₁₃ ζ (zs .1 .0), (L.at-list l₁₄ ζ′ (zs .1 .1 .0), (length edges, (x-clocks, (x-counts, (x-hash, (actor, (seq, (max, (ops, (x-deps, (x-unknown, tt)))))))))))))) ys) ⊛ raw (fact 𝓤 (Cored r (zs .1 .0) (zs .1 .1 .0) (ys .0) (ys .1 .0) (ys .1 .1 .0) (ys .1 .1 .1 .0) (ys .1 .1 .1 .1 .1 .0) (ys .1 .1 .1 .1 .1 .1 .0) (ys .1 .1 .1 .1 .1 .1 .1 .1 .1 .1 .1 .1 .1 .0))))) (id⊢ 𝓤 _) $ pick ! (λ ys. split ! $ move ! (1 ∷ []) $ heard ! (Cored r (zs .1 .0) (zs .1 .1 .0) (ys .0) (ys .1 .0) (ys .1 .1 .0) (ys .1 .1 .1 .0) (ys .1 .1 .1 .1 .1 .0) (ys .1 .1 .1 .1 .1 .1 .0) (ys .1 .1 .1 .1 .1 .1 .1 .1 .1 .1 .1 .1 .1 .0)) (λ c.
+        fsplit ! $ fsplit ! $ move ! (1 ∷ []) $ feqL ! (λ l-hashes. move ! (1 ∷ []) $ fsplit ! $ fsplit ! $ move ! (1 ∷ []) $ feqL ! (λ l-nodes. move ! (1 ∷ []) $ fsplit ! $ fsplit ! $ move ! (1 ∷ []) $ feqL ! (λ _. move ! (1 ∷ []) $ fsplit ! $ fsplit ! $ move ! (1 ∷ []) $ feqL ! (λ _. move ! (1 ∷ []) $ fsplit ! $ drop ! $ fsplit ! $ fsplit ! $ move ! (1 ∷ []) $ feqL ! (λ l-clocks. move ! (1 ∷ []) $ fsplit ! $ fsplit ! $ move ! (1 ∷ []) $ feqL ! (λ l-counts. move ! (1 ∷ []) $ fsplit ! $ drop ! $ fsplit ! $ drop ! $ fsplit ! $ drop ! $ fsplit ! $ drop ! $ fsplit ! $ drop ! $ fsplit ! $ drop ! $ fsplit ! $ fsplit ! $ move ! (1 ∷ []) $ feqL ! (λ l-unknown. move ! (1 ∷ []) $ drop ! $
+        move ! (7 ∷ []) $ split ! $ move ! (1 ∷ []) $ peeks ! u32 (Is u32) (shows 𝓤 H A u32) r (v′ ∷ []) (λ ir. land ! (from ! (stop !)) (init ! 69 refl (uint-lawful 𝓤 H A W w32 .typed r _ ir .0)) $
+        move ! (1 ∷ []) $ split ! $ move ! (1 ∷ []) $ split ! $ move ! (1 ∷ []) $ split ! $ move ! (1 ∷ []) $ split ! $ move ! (1 ∷ []) $ split ! $ move ! (1 ∷ []) $ split ! $ move ! (1 ∷ []) $ split ! $ move ! (1 ∷ []) $ split ! $ move ! (1 ∷ []) $ split ! $ move ! (1 ∷ []) $ drop ! $ move ! (6 ∷ []) $ lft-end ! tt $ move ! (0 ∷ 18 ∷ 14 ∷ []) $ use3 W (later (‵ (partAt (Array u32 E.room) fullShare (ys .1 .1 .0) l₁₃ 0))) (L.array-back 𝓤 H A W (named 1) E.room (μ ∷ []) l₁₃ room-n ζ (ys .1 .1 .0)) $ await ! tt $
+        move ! (6 ∷ []) $ lft-end ! tt $ move ! (0 ∷ 16 ∷ 13 ∷ []) $ use3 W (later (‵ (partAt (Array u32 E.room) fullShare (ys .1 .1 .1 .0) l₁₄ 0))) (L.array-back 𝓤 H A W (named 1) E.room (μ′ ∷ []) l₁₄ room-n ζ′ (ys .1 .1 .1 .0)) $ await ! tt $
         -- and back into the edges, which are given up for good
-        assigns ! (addr ! (from ! (stop !))) (from ! (stop !)) (init ! 27 refl (tt, tt)) $ assigns ! (agg ! (and-then ! (load ! (from ! (stop !)) (look ! 27 refl)) (and-then ! (L.lit-big ! (record { fits = lit< tt })) (no-more !)))) (from ! (stop !)) (init ! 25 refl (tt, (tt, (record { fits = lit< tt }, tt)))) $
-        assigns ! (addr ! (from ! (stop !))) (from ! (stop !)) (init ! 23 refl (tt, tt)) $ assigns ! (agg ! (and-then ! (load ! (from ! (stop !)) (look ! 23 refl)) (and-then ! (L.lit-big ! (record { fits = lit< tt })) (no-more !)))) (from ! (stop !)) (init ! 21 refl (tt, (tt, (record { fits = lit< tt }, tt)))) $
-        assigns ! (addr ! (from ! (fld ! refl (hop ! (look-in ! 89 (sub ! 0 refl (whole !))) (stop !))))) (from ! (stop !)) (init ! 19 refl (tt, tt)) $ assigns ! (agg ! (and-then ! (load ! (from ! (stop !)) (look ! 19 refl)) (and-then ! (load ! (from ! (fld ! refl (stop !))) (look-in ! 89 (sub ! 1 refl (whole !)))) (no-more !)))) (from ! (stop !)) (init ! 17 refl (tt, (tt, (record { fits = edges-room .0 }, tt)))) $
-        lft-new ! tt (λ β. move ! (2 ∷ []) $ use1 W (later (some (λ (δ₀ : GName). given (length (ys .1 .1 .0) ≡ E.room) (‵ (ShrSlice (named 1) (β ∷ []) u32 .own (L.at-list l₁₂ δ₀ (ys .1 .1 .0)) (L.s l₁₂ E.room ∷ [])) ⊛ ‵ (flent (β ∷ []) (arr-parts (shares u32) (length (ys .1 .1 .0)) .part fullShare (ys .1 .1 .0) l₁₂ 0)))))) (L.shares-array 𝓤 H A W (named 1) E.room (β ∷ []) l₁₂ room-n (ys .1 .1 .0)) $ await ! tt $ pick ! (λ η. learn ! (λ k₃. split ! $
-        lft-new ! tt (λ β′. move ! (4 ∷ []) $ use1 W (later (some (λ (δ₀ : GName). given (length (ys .1 .1 .1 .0) ≡ E.room) (‵ (ShrSlice (named 1) (β′ ∷ []) u32 .own (L.at-list l₁₃ δ₀ (ys .1 .1 .1 .0)) (L.s l₁₃ E.room ∷ [])) ⊛ ‵ (flent (β′ ∷ []) (arr-parts (shares u32) (length (ys .1 .1 .1 .0)) .part fullShare (ys .1 .1 .1 .0) l₁₃ 0)))))) (L.shares-array 𝓤 H A W (named 1) E.room (β′ ∷ []) l₁₃ room-n (ys .1 .1 .1 .0)) $ await ! tt $ pick ! (λ η′. learn ! (λ k₄. split ! $
-        move ! (2 ∷ 18 ∷ []) $ join ! $ move ! (5 ∷ 0 ∷ []) $ join ! $ move ! (3 ∷ 1 ∷ []) $ join ! $ move ! (1 ∷ 15 ∷ 0 ∷ []) $ use3 W (raw (Pack 𝓤 H A mem run .pre (to-pack β β′ η η′ l₁₂ l₁₃ (ys .1 .1 .0) (ys .1 .1 .1 .0)))) (goes-pack β β′ η η′ l₁₂ l₁₃ (ys .1 .1 .0) (ys .1 .1 .1 .0)) $
-        calls-at ! fm (Pack 𝓤 H A mem run) known-pack (to-pack β β′ η η′ l₁₂ l₁₃ (ys .1 .1 .0) (ys .1 .1 .1 .0)) (and-then ! (load ! (from ! (stop !)) (look ! 24 refl)) (and-then ! (load ! (from ! (stop !)) (look ! 20 refl)) (and-then ! (load ! (from ! (stop !)) (look ! 16 refl)) (no-more !)))) (λ v″.
-        use1 W (later (some (λ (z : Unit {0}). ((‵ (flft (β ∷ []) fullShare) ⊛ ‵ (flft (β′ ∷ []) fullShare) ⊛ ‵ (flft κ-edges q-edges) ⊛ ‵ ftrue) ⊛ ‵ (unit .own z (v″ ∷ []))) ⊛ raw (ensured 𝓤 H A pack.ended (pack.clauses 𝓤 H A mem run) (β ∷ [], (β′ ∷ [], (κ-edges, tt))) (L.at-list l₁₂ η (ys .1 .1 .0), (L.at-list l₁₃ η′ (ys .1 .1 .1 .0), (r-edges γ-edges edges, tt))) tt z)))) (id⊢ 𝓤 _) $ await ! tt $ pick ! (λ z. split ! $
-        move ! (1 ∷ []) $ use1 W (some (λ (ws : Unit {0} × (Unit {0} × (List Edge × Unit {0}))). ‵ (lasts pack.ended (β ∷ [], (β′ ∷ [], (κ-edges, tt))) (L.at-list l₁₂ η (ys .1 .1 .0), (L.at-list l₁₃ η′ (ys .1 .1 .1 .0), (r-edges γ-edges edges, tt))) ws) ⊛ raw (fact 𝓤 (ws .1 .1 .0 ≡ packed (ys .1 .1 .0) (ys .1 .1 .1 .0) edges)))) (id⊢ 𝓤 _) $ pick ! (λ ws. split ! $ move ! (1 ∷ []) $ heard ! (ws .1 .1 .0 ≡ packed (ys .1 .1 .0) (ys .1 .1 .1 .0) edges) (λ p.
+        assigns ! (addr ! (from ! (stop !))) (from ! (stop !)) (init ! 29 refl (tt, tt)) $ assigns ! (agg ! (and-then ! (load ! (from ! (stop !)) (look ! 29 refl)) (and-then ! (L.lit-big ! (record { fits = lit< tt })) (no-more !)))) (from ! (stop !)) (init ! 27 refl (tt, (tt, (record { fits = lit< tt }, tt)))) $
+        assigns ! (addr ! (from ! (stop !))) (from ! (stop !)) (init ! 25 refl (tt, tt)) $ assigns ! (agg ! (and-then ! (load ! (from ! (stop !)) (look ! 25 refl)) (and-then ! (L.lit-big ! (record { fits = lit< tt })) (no-more !)))) (from ! (stop !)) (init ! 23 refl (tt, (tt, (record { fits = lit< tt }, tt)))) $
+        assigns ! (addr ! (from ! (fld ! refl (hop ! (look-in ! 97 (sub ! 0 refl (whole !))) (stop !))))) (from ! (stop !)) (init ! 21 refl (tt, tt)) $ assigns ! (agg ! (and-then ! (load ! (from ! (stop !)) (look ! 21 refl)) (and-then ! (load ! (from ! (fld ! refl (stop !))) (look-in ! 97 (sub ! 1 refl (whole !)))) (no-more !)))) (from ! (stop !)) (init ! 19 refl (tt, (tt, (record { fits = edges-room .0 }, tt)))) $
+        lft-new ! tt (λ β. move ! (2 ∷ []) $ use1 W (later (some (λ (δ₀ : GName). given (length (ys .1 .1 .0) ≡ E.room) (‵ (ShrSlice (named 1) (β ∷ []) u32 .own (L.at-list l₁₃ δ₀ (ys .1 .1 .0)) (L.s l₁₃ E.room ∷ [])) ⊛ ‵ (flent (β ∷ []) (arr-parts (shares u32) (length (ys .1 .1 .0)) .part fullShare (ys .1 .1 .0) l₁₃ 0)))))) (L.shares-array 𝓤 H A W (named 1) E.room (β ∷ []) l₁₃ room-n (ys .1 .1 .0)) $ await ! tt $ pick ! (λ η. learn ! (λ k₃. split ! $
+        lft-new ! tt (λ β′. move ! (4 ∷ []) $ use1 W (later (some (λ (δ₀ : GName). given (length (ys .1 .1 .1 .0) ≡ E.room) (‵ (ShrSlice (named 1) (β′ ∷ []) u32 .own (L.at-list l₁₄ δ₀ (ys .1 .1 .1 .0)) (L.s l₁₄ E.room ∷ [])) ⊛ ‵ (flent (β′ ∷ []) (arr-parts (shares u32) (length (ys .1 .1 .1 .0)) .part fullShare (ys .1 .1 .1 .0) l₁₄ 0)))))) (L.shares-array 𝓤 H A W (named 1) E.room (β′ ∷ []) l₁₄ room-n (ys .1 .1 .1 .0)) $ await ! tt $ pick ! (λ η′. learn ! (λ k₄. split ! $
+        move ! (2 ∷ 20 ∷ []) $ join ! $ move ! (5 ∷ 0 ∷ []) $ join ! $ move ! (3 ∷ 1 ∷ []) $ join ! $ move ! (1 ∷ 17 ∷ 0 ∷ []) $ use3 W (raw (Pack 𝓤 H A mem run .pre (to-pack β β′ η η′ l₁₃ l₁₄ (ys .1 .1 .0) (ys .1 .1 .1 .0)))) (goes-pack β β′ η η′ l₁₃ l₁₄ (ys .1 .1 .0) (ys .1 .1 .1 .0)) $
+        calls-at ! fm (Pack 𝓤 H A mem run) known-pack (to-pack β β′ η η′ l₁₃ l₁₄ (ys .1 .1 .0) (ys .1 .1 .1 .0)) (and-then ! (load ! (from ! (stop !)) (look ! 26 refl)) (and-then ! (load ! (from ! (stop !)) (look ! 22 refl)) (and-then ! (load ! (from ! (stop !)) (look ! 18 refl)) (no-more !)))) (λ v″.
+        use1 W (later (some (λ (z : Unit {0}). ((‵ (flft (β ∷ []) fullShare) ⊛ ‵ (flft (β′ ∷ []) fullShare) ⊛ ‵ (flft κ-edges q-edges) ⊛ ‵ ftrue) ⊛ ‵ (unit .own z (v″ ∷ []))) ⊛ raw (ensured 𝓤 H A pack.ended (pack.clauses 𝓤 H A mem run) (β ∷ [], (β′ ∷ [], (κ-edges, tt))) (L.at-list l₁₃ η (ys .1 .1 .0), (L.at-list l₁₄ η′ (ys .1 .1 .1 .0), (r-edges γ-edges edges, tt))) tt z)))) (id⊢ 𝓤 _) $ await ! tt $ pick ! (λ z. split ! $
+        move ! (1 ∷ []) $ use1 W (some (λ (ws : Unit {0} × (Unit {0} × (List Edge × Unit {0}))). ‵ (lasts pack.ended (β ∷ [], (β′ ∷ [], (κ-edges, tt))) (L.at-list l₁₃ η (ys .1 .1 .0), (L.at-list l₁₄ η′ (ys .1 .1 .1 .0), (r-edges γ-edges edges, tt))) ws) ⊛ raw (fact 𝓤 (ws .1 .1 .0 ≡ packed (ys .1 .1 .0) (ys .1 .1 .1 .0) edges)))) (id⊢ 𝓤 _) $ pick ! (λ ws. split ! $ move ! (1 ∷ []) $ heard ! (ws .1 .1 .0 ≡ packed (ys .1 .1 .0) (ys .1 .1 .1 .0) edges) (λ p.
         fsplit ! $ drop ! $ fsplit ! $ drop ! $ fsplit ! $ fsplit ! $ move ! (1 ∷ []) $ feqL ! (λ l-edges. move ! (1 ∷ []) $ drop ! $
-        move ! (1 ∷ []) $ split ! $ move ! (1 ∷ []) $ feqL ! (λ iz. land ! (from ! (stop !)) (store ! 65 refl (subst (λ (u₀ : Val). Holds (hasTy tyUnit u₀) × WT u₀) (sym (ap only iz)) (tt, tt))) $
-        split ! $ move ! (1 ∷ []) $ split ! $ move ! (1 ∷ []) $ split ! $ move ! (1 ∷ []) $ drop ! $ move ! (2 ∷ []) $ lft-end ! tt $ move ! (0 ∷ 5 ∷ []) $ use2 W (later (‵ (partAt (Array u32 E.room) fullShare (ys .1 .1 .0) l₁₂ 0))) (L.array-shut 𝓤 H A W (named 1) E.room (β ∷ []) l₁₂ room-n (ys .1 .1 .0) k₃) $ await ! tt $
-        move ! (2 ∷ []) $ lft-end ! tt $ move ! (0 ∷ 4 ∷ []) $ use2 W (later (‵ (partAt (Array u32 E.room) fullShare (ys .1 .1 .1 .0) l₁₃ 0))) (L.array-shut 𝓤 H A W (named 1) E.room (β′ ∷ []) l₁₃ room-n (ys .1 .1 .1 .0) k₄) $ await ! tt $
-        move ! (1 ∷ []) $ use1 W (‵ (froom (tyArray (tyInt w32) E.room) l₁₂ 0)) (L.array-room 𝓤 H A W (named 1) E.room (ys .1 .1 .0) l₁₂) $ move ! (1 ∷ []) $ use1 W (‵ (froom (tyArray (tyInt w32) E.room) l₁₃ 0)) (L.array-room 𝓤 H A W (named 1) E.room (ys .1 .1 .1 .0) l₁₃) $
-        assigns ! (of-opd ! (load ! (from ! (stop !)) (look ! 67 refl))) (from ! (stop !)) (init ! 95 refl (uint-lawful 𝓤 H A W w32 .typed r _ ir .0)) $
-        -- [_13; _12; κ·edges; f·edges; κ·deps; κ·hash; κ·counts; κ·clocks; κ·nodes; κ·hashes; res; f·counts; f·clocks; f·nodes; f·hashes; k·deps; k·hash; _40; _39; _38; _37; _36; _35; _34; _33; _32; _31; _30; _29; _28; _27; _26; _25; _24; _23; _22; _21; _20; _19; _18; _17; _16; _15; _14; _11; _10; _9; _8; _7; _6; _5; _4; _3; _2; _1; _0]
-        returns ! (look ! 95 refl) $
-        forget ! 17 refl $ forget ! 19 refl $ forget ! 21 refl $ forget ! 23 refl $ forget ! 25 refl $ forget ! 27 refl $ forget ! 29 refl $ forget ! 31 refl $ forget ! 33 refl $ forget ! 35 refl $ forget ! 37 refl $ forget ! 39 refl $ forget ! 41 refl $ forget ! 43 refl $ forget ! 45 refl $ forget ! 47 refl $ forget ! 49 refl $ forget ! 51 refl $ forget ! 53 refl $ forget ! 55 refl $ forget ! 57 refl $ forget ! 59 refl $ forget ! 61 refl $ forget ! 63 refl $ forget ! 65 refl $ forget ! 67 refl $ forget ! 69 refl $ forget ! 73 refl $ forget ! 75 refl $ forget ! 77 refl $ forget ! 79 refl $ forget ! 81 refl $ forget ! 83 refl $ forget ! 85 refl $ forget ! 87 refl $ forget ! 89 refl $ forget ! 91 refl $ forget ! 93 refl $ forget ! 95 refl $
-        move ! (95 ∷ 96 ∷ []) $ free1 ! $ move ! (93 ∷ 94 ∷ []) $ free1 ! $ move ! (91 ∷ 92 ∷ []) $ free1 ! $ move ! (89 ∷ 90 ∷ []) $ free1 ! $ move ! (87 ∷ 88 ∷ []) $ free1 ! $ move ! (85 ∷ 86 ∷ []) $ free1 ! $ move ! (83 ∷ 84 ∷ []) $ free1 ! $ move ! (81 ∷ 82 ∷ []) $ free1 ! $ move ! (79 ∷ 80 ∷ []) $ free1 ! $ move ! (77 ∷ 78 ∷ []) $ free1 ! $ move ! (75 ∷ 76 ∷ []) $ free1 ! $ move ! (73 ∷ 74 ∷ []) $ free1 ! $ move ! (1 ∷ 72 ∷ []) $ free1 ! $ move ! (0 ∷ 70 ∷ []) $ free1 ! $ move ! (67 ∷ 68 ∷ []) $ free1 ! $ move ! (65 ∷ 66 ∷ []) $ free1 ! $ move ! (63 ∷ 64 ∷ []) $ free1 ! $ move ! (61 ∷ 62 ∷ []) $ free1 ! $ move ! (59 ∷ 60 ∷ []) $ free1 ! $ move ! (57 ∷ 58 ∷ []) $ free1 ! $ move ! (55 ∷ 56 ∷ []) $ free1 ! $ move ! (53 ∷ 54 ∷ []) $ free1 ! $ move ! (51 ∷ 52 ∷ []) $ free1 ! $ move ! (49 ∷ 50 ∷ []) $ free1 ! $ move ! (47 ∷ 48 ∷ []) $ free1 ! $ move ! (45 ∷ 46 ∷ []) $ free1 ! $ move ! (43 ∷ 44 ∷ []) $ free1 ! $ move ! (41 ∷ 42 ∷ []) $ free1 ! $ move ! (39 ∷ 40 ∷ []) $ free1 ! $ move ! (37 ∷ 38 ∷ []) $ free1 ! $ move ! (35 ∷ 36 ∷ []) $ free1 ! $ move ! (33 ∷ 34 ∷ []) $ free1 ! $ move ! (31 ∷ 32 ∷ []) $ free1 ! $ move ! (29 ∷ 30 ∷ []) $ free1 ! $ move ! (27 ∷ 28 ∷ []) $ free1 ! $ move ! (25 ∷ 26 ∷ []) $ free1 ! $ move ! (23 ∷ 24 ∷ []) $ free1 ! $ move ! (21 ∷ 22 ∷ []) $ free1 ! $ move ! (19 ∷ 20 ∷ []) $ free1 ! $ move ! (17 ∷ 18 ∷ []) $ free1 ! $ move ! (15 ∷ 16 ∷ []) $ free1 ! $ free0 ! $
-        keep ! (7 ∷ 6 ∷ 0 ∷ 5 ∷ 4 ∷ 3 ∷ 2 ∷ 12 ∷ 11 ∷ 1 ∷ 10 ∷ 9 ∷ 14 ∷ 13 ∷ 8 ∷ []) $ by ! (exits r v′ (ys .0) (ys .1 .0) (ws .1 .1 .0) (ys .1 .1 .1 .1 .1 .0) (ys .1 .1 .1 .1 .1 .1 .0) l-hashes l-nodes l-edges l-clocks l-counts (said r (zs .1 .0) (zs .1 .1 .0) (ys .0) (ys .1 .0) (ys .1 .1 .0) (ys .1 .1 .1 .0) (ys .1 .1 .1 .1 .1 .0) (ys .1 .1 .1 .1 .1 .1 .0) (ws .1 .1 .0) u c p k₃ k₄ e₃)))))))))))))))))))))))))))))))))))))))))))))))))))))))))))))))))))))))))))))))))))))))
+        move ! (1 ∷ []) $ split ! $ move ! (1 ∷ []) $ feqL ! (λ iz. land ! (from ! (stop !)) (store ! 71 refl (subst (λ (u₀ : Val). Holds (hasTy tyUnit u₀) × WT u₀) (sym (ap only iz)) (tt, tt))) $
+        split ! $ move ! (1 ∷ []) $ split ! $ move ! (1 ∷ []) $ split ! $ move ! (1 ∷ []) $ drop ! $ move ! (2 ∷ []) $ lft-end ! tt $ move ! (0 ∷ 5 ∷ []) $ use2 W (later (‵ (partAt (Array u32 E.room) fullShare (ys .1 .1 .0) l₁₃ 0))) (L.array-shut 𝓤 H A W (named 1) E.room (β ∷ []) l₁₃ room-n (ys .1 .1 .0) k₃) $ await ! tt $
+        move ! (2 ∷ []) $ lft-end ! tt $ move ! (0 ∷ 4 ∷ []) $ use2 W (later (‵ (partAt (Array u32 E.room) fullShare (ys .1 .1 .1 .0) l₁₄ 0))) (L.array-shut 𝓤 H A W (named 1) E.room (β′ ∷ []) l₁₄ room-n (ys .1 .1 .1 .0) k₄) $ await ! tt $
+        move ! (1 ∷ []) $ use1 W (‵ (froom (tyArray (tyInt w32) E.room) l₁₃ 0)) (L.array-room 𝓤 H A W (named 1) E.room (ys .1 .1 .0) l₁₃) $ move ! (1 ∷ []) $ use1 W (‵ (froom (tyArray (tyInt w32) E.room) l₁₄ 0)) (L.array-room 𝓤 H A W (named 1) E.room (ys .1 .1 .1 .0) l₁₄) $
+        assigns ! (of-opd ! (load ! (from ! (stop !)) (look ! 73 refl))) (from ! (stop !)) (init ! 103 refl (uint-lawful 𝓤 H A W w32 .typed r _ ir .0)) $
+        -- [_14; _13; κ·edges; f·edges; κ·unknown; κ·deps; κ·hash; κ·counts; κ·clocks; κ·nodes; κ·hashes; res; f·unknown; f·counts; f·clocks; f·nodes; f·hashes; k·deps; k·hash; _43; _42; _41; _40; _39; _38; _37; _36; _35; _34; _33; _32; _31; _30; _29; _28; _27; _26; _25; _24; _23; _22; _21; _20; _19; _18; _17; _16; _15; _12; _11; _10; _9; _8; _7; _6; _5; _4; _3; _2; _1; _0]
+        returns ! (look ! 103 refl) $
+        forget ! 19 refl $ forget ! 21 refl $ forget ! 23 refl $ forget ! 25 refl $ forget ! 27 refl $ forget ! 29 refl $ forget ! 31 refl $ forget ! 33 refl $ forget ! 35 refl $ forget ! 37 refl $ forget ! 39 refl $ forget ! 41 refl $ forget ! 43 refl $ forget ! 45 refl $ forget ! 47 refl $ forget ! 49 refl $ forget ! 51 refl $ forget ! 53 refl $ forget ! 55 refl $ forget ! 57 refl $ forget ! 59 refl $ forget ! 61 refl $ forget ! 63 refl $ forget ! 65 refl $ forget ! 67 refl $ forget ! 69 refl $ forget ! 71 refl $ forget ! 73 refl $ forget ! 75 refl $ forget ! 79 refl $ forget ! 81 refl $ forget ! 83 refl $ forget ! 85 refl $ forget ! 87 refl $ forget ! 89 refl $ forget ! 91 refl $ forget ! 93 refl $ forget ! 95 refl $ forget ! 97 refl $ forget ! 99 refl $ forget ! 101 refl $ forget ! 103 refl $
+        move ! (103 ∷ 104 ∷ []) $ free1 ! $ move ! (101 ∷ 102 ∷ []) $ free1 ! $ move ! (99 ∷ 100 ∷ []) $ free1 ! $ move ! (97 ∷ 98 ∷ []) $ free1 ! $ move ! (95 ∷ 96 ∷ []) $ free1 ! $ move ! (93 ∷ 94 ∷ []) $ free1 ! $ move ! (91 ∷ 92 ∷ []) $ free1 ! $ move ! (89 ∷ 90 ∷ []) $ free1 ! $ move ! (87 ∷ 88 ∷ []) $ free1 ! $ move ! (85 ∷ 86 ∷ []) $ free1 ! $ move ! (83 ∷ 84 ∷ []) $ free1 ! $ move ! (81 ∷ 82 ∷ []) $ free1 ! $ move ! (79 ∷ 80 ∷ []) $ free1 ! $ move ! (1 ∷ 78 ∷ []) $ free1 ! $ move ! (0 ∷ 76 ∷ []) $ free1 ! $ move ! (73 ∷ 74 ∷ []) $ free1 ! $ move ! (71 ∷ 72 ∷ []) $ free1 ! $ move ! (69 ∷ 70 ∷ []) $ free1 ! $ move ! (67 ∷ 68 ∷ []) $ free1 ! $ move ! (65 ∷ 66 ∷ []) $ free1 ! $ move ! (63 ∷ 64 ∷ []) $ free1 ! $ move ! (61 ∷ 62 ∷ []) $ free1 ! $ move ! (59 ∷ 60 ∷ []) $ free1 ! $ move ! (57 ∷ 58 ∷ []) $ free1 ! $ move ! (55 ∷ 56 ∷ []) $ free1 ! $ move ! (53 ∷ 54 ∷ []) $ free1 ! $ move ! (51 ∷ 52 ∷ []) $ free1 ! $ move ! (49 ∷ 50 ∷ []) $ free1 ! $ move ! (47 ∷ 48 ∷ []) $ free1 ! $ move ! (45 ∷ 46 ∷ []) $ free1 ! $ move ! (43 ∷ 44 ∷ []) $ free1 ! $ move ! (41 ∷ 42 ∷ []) $ free1 ! $ move ! (39 ∷ 40 ∷ []) $ free1 ! $ move ! (37 ∷ 38 ∷ []) $ free1 ! $ move ! (35 ∷ 36 ∷ []) $ free1 ! $ move ! (33 ∷ 34 ∷ []) $ free1 ! $ move ! (31 ∷ 32 ∷ []) $ free1 ! $ move ! (29 ∷ 30 ∷ []) $ free1 ! $ move ! (27 ∷ 28 ∷ []) $ free1 ! $ move ! (25 ∷ 26 ∷ []) $ free1 ! $ move ! (23 ∷ 24 ∷ []) $ free1 ! $ move ! (21 ∷ 22 ∷ []) $ free1 ! $ move ! (19 ∷ 20 ∷ []) $ free1 ! $ move ! (17 ∷ 18 ∷ []) $ free1 ! $ free0 ! $
+        keep ! (8 ∷ 7 ∷ 0 ∷ 6 ∷ 5 ∷ 4 ∷ 3 ∷ 2 ∷ 14 ∷ 13 ∷ 1 ∷ 12 ∷ 11 ∷ 16 ∷ 15 ∷ 10 ∷ 9 ∷ []) $ by ! (exits r v′ (ys .0) (ys .1 .0) (ws .1 .1 .0) (ys .1 .1 .1 .1 .1 .0) (ys .1 .1 .1 .1 .1 .1 .0) (ys .1 .1 .1 .1 .1 .1 .1 .1 .1 .1 .1 .1 .1 .0) l-hashes l-nodes l-edges l-clocks l-counts l-unknown (said r (zs .1 .0) (zs .1 .1 .0) (ys .0) (ys .1 .0) (ys .1 .1 .0) (ys .1 .1 .1 .0) (ys .1 .1 .1 .1 .1 .0) (ys .1 .1 .1 .1 .1 .1 .0) (ys .1 .1 .1 .1 .1 .1 .1 .1 .1 .1 .1 .1 .1 .0) (ws .1 .1 .0) u c p k₃ k₄ e₃)))))))))))))))))))))))))))))))))))))))))))))))))))))))))))))))))))))))))))))))))))))))))))
 
 module _ {M : Type 1} (𝓤 : URA M) (H : Heap 𝓤) (A : Atoms 𝓤) (W : Given 𝓤 H A) (mem : Memory → SProp 𝓤) (run : Routine → Fun 𝓤) where
   op-walks : (C : Calls 𝓤 H) (Λ : Loops 𝓤 H) → FmC 𝓤 H (W .laws) C → Triple 𝓤 (C #unpack) (Unpack 𝓤 H A mem run) → Triple 𝓤 (C #core) (Core 𝓤 H A mem run) → Triple 𝓤 (C #pack) (Pack 𝓤 H A mem run) → Walks 𝓤 H A f.ended stayed (WpFn 𝓤 H C Λ code.function) (f.clauses 𝓤 H A mem run)
-  op-walks C Λ fm known-unpack known-core known-pack = walked 𝓤 H A f.ended stayed (f.clauses 𝓤 H A mem run) (WpFn 𝓤 H C Λ code.function) (λ κs. (slice-vals, (slice-vals, (slice-vals, (slice-vals, (slice-vals, (slice-vals, (uint-vals w64, (uint-vals w64, (uint-vals w64, (uint-vals w64, (slice-vals, tt)))))))))))) (λ κs. (mut-slice-tells (named 0) (κs .0) u8, (mut-slice-tells (named 1) (κs .1 .0) u32, (mut-slice-tells (named 2) (κs .1 .1 .0) T.the-row, (mut-slice-tells (named 3) (κs .1 .1 .1 .0) u32, (mut-slice-tells (named 4) (κs .1 .1 .1 .1 .0) u32, (shr-slice-tells (named 5) (κs .1 .1 .1 .1 .1 .0) u8, (uint-tells w64, (uint-tells w64, (uint-tells w64, (uint-tells w64, (shr-slice-tells (named 6) (κs .1 .1 .1 .1 .1 .1 .0) u8, tt))))))))))))
-      (λ κs qs bounds a _ are. via 𝓤 _ (fst∗ 𝓤 _ (emp 𝓤)) (walk 𝓤 H A W mem run (κs .0) (qs .0) (a .0 .ptr .0) (a .0 .ptr .1) (a .0 .name) (a .0 .now) (are .0 .0 .1) (κs .1 .0) (qs .1 .0) (a .1 .0 .ptr .0) (a .1 .0 .ptr .1) (a .1 .0 .name) (a .1 .0 .now) (are .1 .0 .0 .1) (κs .1 .1 .0) (qs .1 .1 .0) (a .1 .1 .0 .ptr .0) (a .1 .1 .0 .ptr .1) (a .1 .1 .0 .name) (a .1 .1 .0 .now) (are .1 .1 .0 .0 .1) (κs .1 .1 .1 .0) (qs .1 .1 .1 .0) (a .1 .1 .1 .0 .ptr .0) (a .1 .1 .1 .0 .ptr .1) (a .1 .1 .1 .0 .name) (a .1 .1 .1 .0 .now) (are .1 .1 .1 .0 .0 .1) (κs .1 .1 .1 .1 .0) (qs .1 .1 .1 .1 .0) (a .1 .1 .1 .1 .0 .ptr .0) (a .1 .1 .1 .1 .0 .ptr .1) (a .1 .1 .1 .1 .0 .name) (a .1 .1 .1 .1 .0 .now) (are .1 .1 .1 .1 .0 .0 .1) (κs .1 .1 .1 .1 .1 .0) (qs .1 .1 .1 .1 .1 .0) (a .1 .1 .1 .1 .1 .0 .ptr .0) (a .1 .1 .1 .1 .1 .0 .ptr .1) (a .1 .1 .1 .1 .1 .0 .name) (a .1 .1 .1 .1 .1 .0 .now) (are .1 .1 .1 .1 .1 .0 .0 .1) (a .1 .1 .1 .1 .1 .1 .0) (are .1 .1 .1 .1 .1 .1 .0 .1) (a .1 .1 .1 .1 .1 .1 .1 .0) (are .1 .1 .1 .1 .1 .1 .1 .0 .1) (a .1 .1 .1 .1 .1 .1 .1 .1 .0) (are .1 .1 .1 .1 .1 .1 .1 .1 .0 .1) (a .1 .1 .1 .1 .1 .1 .1 .1 .1 .0) (are .1 .1 .1 .1 .1 .1 .1 .1 .1 .0 .1) (κs .1 .1 .1 .1 .1 .1 .0) (qs .1 .1 .1 .1 .1 .1 .0) (a .1 .1 .1 .1 .1 .1 .1 .1 .1 .1 .0 .ptr .0) (a .1 .1 .1 .1 .1 .1 .1 .1 .1 .1 .0 .ptr .1) (a .1 .1 .1 .1 .1 .1 .1 .1 .1 .1 .0 .name) (a .1 .1 .1 .1 .1 .1 .1 .1 .1 .1 .0 .now) (are .1 .1 .1 .1 .1 .1 .1 .1 .1 .1 .0 .0 .1) C Λ fm known-unpack known-core known-pack))
+  op-walks C Λ fm known-unpack known-core known-pack = walked 𝓤 H A f.ended stayed (f.clauses 𝓤 H A mem run) (WpFn 𝓤 H C Λ code.function) (λ κs. (slice-vals, (slice-vals, (slice-vals, (slice-vals, (slice-vals, (slice-vals, (uint-vals w64, (uint-vals w64, (uint-vals w64, (uint-vals w64, (slice-vals, (slice-vals, tt))))))))))))) (λ κs. (mut-slice-tells (named 0) (κs .0) u8, (mut-slice-tells (named 1) (κs .1 .0) u32, (mut-slice-tells (named 2) (κs .1 .1 .0) T.the-row, (mut-slice-tells (named 3) (κs .1 .1 .1 .0) u32, (mut-slice-tells (named 4) (κs .1 .1 .1 .1 .0) u32, (shr-slice-tells (named 5) (κs .1 .1 .1 .1 .1 .0) u8, (uint-tells w64, (uint-tells w64, (uint-tells w64, (uint-tells w64, (shr-slice-tells (named 6) (κs .1 .1 .1 .1 .1 .1 .0) u8, (mut-slice-tells (named 7) (κs .1 .1 .1 .1 .1 .1 .1 .0) u64, tt)))))))))))))
+      (λ κs qs bounds a _ are. via 𝓤 _ (fst∗ 𝓤 _ (emp 𝓤)) (walk 𝓤 H A W mem run (κs .0) (qs .0) (a .0 .ptr .0) (a .0 .ptr .1) (a .0 .name) (a .0 .now) (are .0 .0 .1) (κs .1 .0) (qs .1 .0) (a .1 .0 .ptr .0) (a .1 .0 .ptr .1) (a .1 .0 .name) (a .1 .0 .now) (are .1 .0 .0 .1) (κs .1 .1 .0) (qs .1 .1 .0) (a .1 .1 .0 .ptr .0) (a .1 .1 .0 .ptr .1) (a .1 .1 .0 .name) (a .1 .1 .0 .now) (are .1 .1 .0 .0 .1) (κs .1 .1 .1 .0) (qs .1 .1 .1 .0) (a .1 .1 .1 .0 .ptr .0) (a .1 .1 .1 .0 .ptr .1) (a .1 .1 .1 .0 .name) (a .1 .1 .1 .0 .now) (are .1 .1 .1 .0 .0 .1) (κs .1 .1 .1 .1 .0) (qs .1 .1 .1 .1 .0) (a .1 .1 .1 .1 .0 .ptr .0) (a .1 .1 .1 .1 .0 .ptr .1) (a .1 .1 .1 .1 .0 .name) (a .1 .1 .1 .1 .0 .now) (are .1 .1 .1 .1 .0 .0 .1) (κs .1 .1 .1 .1 .1 .0) (qs .1 .1 .1 .1 .1 .0) (a .1 .1 .1 .1 .1 .0 .ptr .0) (a .1 .1 .1 .1 .1 .0 .ptr .1) (a .1 .1 .1 .1 .1 .0 .name) (a .1 .1 .1 .1 .1 .0 .now) (are .1 .1 .1 .1 .1 .0 .0 .1) (a .1 .1 .1 .1 .1 .1 .0) (are .1 .1 .1 .1 .1 .1 .0 .1) (a .1 .1 .1 .1 .1 .1 .1 .0) (are .1 .1 .1 .1 .1 .1 .1 .0 .1) (a .1 .1 .1 .1 .1 .1 .1 .1 .0) (are .1 .1 .1 .1 .1 .1 .1 .1 .0 .1) (a .1 .1 .1 .1 .1 .1 .1 .1 .1 .0) (are .1 .1 .1 .1 .1 .1 .1 .1 .1 .0 .1) (κs .1 .1 .1 .1 .1 .1 .0) (qs .1 .1 .1 .1 .1 .1 .0) (a .1 .1 .1 .1 .1 .1 .1 .1 .1 .1 .0 .ptr .0) (a .1 .1 .1 .1 .1 .1 .1 .1 .1 .1 .0 .ptr .1) (a .1 .1 .1 .1 .1 .1 .1 .1 .1 .1 .0 .name) (a .1 .1 .1 .1 .1 .1 .1 .1 .1 .1 .0 .now) (are .1 .1 .1 .1 .1 .1 .1 .1 .1 .1 .0 .0 .1) (κs .1 .1 .1 .1 .1 .1 .1 .0) (qs .1 .1 .1 .1 .1 .1 .1 .0) (a .1 .1 .1 .1 .1 .1 .1 .1 .1 .1 .1 .0 .ptr .0) (a .1 .1 .1 .1 .1 .1 .1 .1 .1 .1 .1 .0 .ptr .1) (a .1 .1 .1 .1 .1 .1 .1 .1 .1 .1 .1 .0 .name) (a .1 .1 .1 .1 .1 .1 .1 .1 .1 .1 .1 .0 .now) (are .1 .1 .1 .1 .1 .1 .1 .1 .1 .1 .1 .0 .0 .1) C Λ fm known-unpack known-core known-pack))
 
 op-meets : {M : Type 1} (𝓤 : URA M) (H : Heap 𝓤) (A : Atoms 𝓤) → Given 𝓤 H A → (mem : Memory → SProp 𝓤) (run : Routine → Fun 𝓤) (𝓣 : Tables 𝓤 H) → Triple 𝓤 (𝓣 .C #unpack) (Unpack 𝓤 H A mem run) → Triple 𝓤 (𝓣 .C #core) (Core 𝓤 H A mem run) → Triple 𝓤 (𝓣 .C #pack) (Pack 𝓤 H A mem run) → Meets 𝓤 H A f.signature (WpFn 𝓤 H (𝓣 .C) (𝓣 .Λ) code.function) (f.spec 𝓤 H A mem run)
 op-meets 𝓤 H A W mem run 𝓣 known-unpack known-core known-pack =
-    walk-meets 𝓤 H A f.ended stayed W (goes-gave-slice 𝓤 H A W 7 0 tt (plain (λ _. u8)), (goes-gave-slice 𝓤 H A W 7 1 tt (plain (λ _. u32)), (goes-gave-slice 𝓤 H A W 7 2 tt (plain (λ _. T.the-row)), (goes-gave-slice 𝓤 H A W 7 3 tt (plain (λ _. u32)), (goes-gave-slice 𝓤 H A W 7 4 tt (plain (λ _. u32)), (goes-none-slice 𝓤 H A W 7 (5 ∷ []) tt (plain (λ _. u8)) yes, (goes-none 𝓤 H A W 7 (λ _. u64) yes (λ κs x f. refl), (goes-none 𝓤 H A W 7 (λ _. u64) yes (λ κs x f. refl), (goes-none 𝓤 H A W 7 (λ _. u64) yes (λ κs x f. refl), (goes-none 𝓤 H A W 7 (λ _. u64) yes (λ κs x f. refl), (goes-none-slice 𝓤 H A W 7 (6 ∷ []) tt (plain (λ _. u8)) yes, tt))))))))))) (f.clauses 𝓤 H A mem run)
+    walk-meets 𝓤 H A f.ended stayed W (goes-gave-slice 𝓤 H A W 8 0 tt (plain (λ _. u8)), (goes-gave-slice 𝓤 H A W 8 1 tt (plain (λ _. u32)), (goes-gave-slice 𝓤 H A W 8 2 tt (plain (λ _. T.the-row)), (goes-gave-slice 𝓤 H A W 8 3 tt (plain (λ _. u32)), (goes-gave-slice 𝓤 H A W 8 4 tt (plain (λ _. u32)), (goes-none-slice 𝓤 H A W 8 (5 ∷ []) tt (plain (λ _. u8)) yes, (goes-none 𝓤 H A W 8 (λ _. u64) yes (λ κs x f. refl), (goes-none 𝓤 H A W 8 (λ _. u64) yes (λ κs x f. refl), (goes-none 𝓤 H A W 8 (λ _. u64) yes (λ κs x f. refl), (goes-none 𝓤 H A W 8 (λ _. u64) yes (λ κs x f. refl), (goes-none-slice 𝓤 H A W 8 (6 ∷ []) tt (plain (λ _. u8)) yes, (goes-gave-slice 𝓤 H A W 8 7 tt (plain (λ _. u64)), tt)))))))))))) (f.clauses 𝓤 H A mem run)
     (WpFn 𝓤 H (𝓣 .C) (𝓣 .Λ) code.function) (WpFn-mono 𝓤 H (W .laws) 𝓣 code.function) (op-walks 𝓤 H A W mem run (𝓣 .C) (𝓣 .Λ) (fmOf 𝓤 H (W .laws) 𝓣) known-unpack known-core known-pack)
 
 pub cg-add-spec : {M : Type 1} → stated.statement M
