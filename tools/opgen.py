@@ -75,6 +75,12 @@ def read_description(path):
             d["use"].append(value)
         else:
             d[key] = value
+    if "question" in d:         # what all questions have in common
+        ends = "out′" if re.search(r"\bout′", d["question"]) else "[]"
+        d["relation"] = d["question"]
+        d["refusal"] = f"Untouched {ends.rstrip('′')} told r {ends} told′"
+        d["refused"] = "asks-refused _ _ _ _ _ (lent hashes nodes edges clocks counts) _ _ _"
+        d["use"] += ["Rattle.asked.specs.Asks.{Untouched}", "Rattle.asked.specs.AsksLaws.{asks-refused}"]
     return d
 
 
@@ -821,6 +827,64 @@ class Operation:
         return "\n".join(out) + "\n"
 
 
+# ---- the two covered functions of a question
+
+def chain(n):
+    return "c" + " .before" * n
+
+
+class Question:
+    """The proofs of X_checked and X_told of a question cg_X. The places of the code are counted from its end: each `&mut` slice is one more."""
+
+    def __init__(self, crate, operation, root):
+        source = open(os.path.join(root, "crates", crate, "src", "lib.rt"), encoding="utf-8").read()
+        self.crate, self.name = crate, operation[3:]
+        self.muts = [p.name for p in read_operation(source, operation)[0] if p.kind == "mut"]
+        found = re.search(r"\bfn " + self.name + r"_checked\(.*?let a = ([\w:]+)\(.*?asked::(\w+)\(", source, re.S)
+        if not found:
+            raise SystemExit(f"opgen: {self.name}_checked is not of the shape that README.md gives")
+        self.core, self.teller = found.group(1).split("::")[-1], found.group(2)
+
+    def file(self, function, words, uses, needs):
+        dash = lambda x: x.replace("_", "-")
+        where = f"Rattle.{self.crate}.proofs.{function}"
+        out = [f"-- `{self.crate}::{function}` meets its contract: {words} Assumes nothing.", "-- Written by tools/opgen.py."]
+        out += ["use " + x for x in uses] + ["use borrow.Author.Needs.{needs}", f"use {where}.Statement.{{statement}}", f"use {where}.Tie as tie", ""]
+        for need, bound, term in needs:
+            out += [f"{need} : tie.Need-{need}", f"{need} {bound} = {term}", ""]
+        out += [f"pub {dash(function)}-spec : {{M : Type 1}} → statement M", f"{dash(function)}-spec =", "    tie.close", "    (tie.spec"]
+        return "\n".join(out + ["    " + need + (")" if i == len(needs) - 1 else "") for i, (need, _, _) in enumerate(needs)]) + "\n"
+
+    def lengths(self):
+        return [("same-length" + ("" if i == 0 else f"-{i + 1}"), "c", "search needs") for i in range(len(self.muts))]
+
+    def checked(self):
+        core, buffer = self.core.replace("_", "-"), "out" in self.muts
+        answered = 6 if buffer else 4           # the core's place, with its buffer lent and back
+        left = answered + (2 if buffer else 1)
+        valid = lambda n: f"({chain(n + 1)} .valid .ensures .0 (not-false _ ({chain(n)} .if1 .left)))"
+        told = f"({chain(answered)} .{core} .ensures"
+        both = f"{told} .0) {told} .1)" if buffer else f"{told}) refl"
+        given = f"({chain(2)} .{self.teller.replace('_', '-')} .ensures"
+        return self.file(self.name + "_checked", "on valid tables the number, the buffer and what is told are the core's, and else nothing changes.",
+                         ["mathlib.Core.Path.{refl}", "borrow.Author.Tests.{not-true, not-false}", "Rattle.asked.specs.AsksLaws.{asks-invalid, asks-valid}"],
+                         [("valid-requires", "c κs", "search needs"),
+                          ("returns", "c", f"asks-invalid _ _ _ _ _ _ ({chain(1)} .valid .ensures) (not-true _ (c .if1 .taken))"),
+                          (f"{core}-requires", "c κs", valid(1)[1:-1] if buffer else valid(0)[1:-1]),
+                          (f"{self.teller.replace('_', '-')}-requires", "c κs", "search needs")] + self.lengths() +
+                         [("returns-2", "c", f"asks-valid _ _ _ _ _ _ _ _ _ {valid(left)} _ {both} {given} .0) {given} .1)")])
+
+    def told(self):
+        inner, m = self.name.replace("_", "-") + "-checked", len(self.muts)
+        part = lambda i: f"sym (length-take-le _ _ ({chain(2)} .if{i} .left))"
+        return self.file(self.name + "_told", "it hands the first e edges on, or refuses where there is no room for them.",
+                         ["mathlib.Core.Path.{refl, sym}", "mathlib.Core.Logic.{inl, inr}", "lib.Seq.{length-take-le}", "Rattle.edges.specs.Told.{asked-none, asked-part}"],
+                         [("returns", "c", "asked-none _ _ _ _ (inl (c .if1 .taken)) (refl, refl, refl)"),
+                          ("returns-2", "c", "asked-none _ _ _ _ (inr (c .if2 .taken)) (refl, refl, refl)"),
+                          (f"slice-aggregate-{inner}", "c", part(1)), (f"slice-aggregate-{inner}-2", "c", part(2)), (f"{inner}-requires", "c κs", "search needs")] + self.lengths() +
+                         [("returns-3", "c", f"asked-part _ _ _ _ ({chain(3 * m + 4)} .if1 .left) ({chain(3 * m + 3)} .if2 .left) ({chain(2 * m)} .{inner} .ensures)")])
+
+
 def laid_out(text):
     """The text as `rt fmt` lays it out."""
     return "\n".join(line.rstrip() for line in text.split("\n") if not line or line.strip())
@@ -836,17 +900,22 @@ def main():
     stale = 0
     for crate, name in todo:
         op = Operation(crate, name, root)
-        path = os.path.join(root, "crates", crate, "proofs", name, "Proof.antt")
-        text = laid_out(op.proof())
-        if check:
-            same = os.path.exists(path) and open(path, encoding="utf-8").read() == text
-            stale += not same
-            print(f"{crate} {name}: " + ("as written" if same else "NOT as the script writes it"))
-            continue
-        os.makedirs(os.path.dirname(path), exist_ok=True)
-        with open(path, "w", encoding="utf-8") as f:
-            f.write(text)
-        print(f"crates/{crate}/proofs/{name}/Proof.antt: {op.locals} locals")
+        files = {name: op.proof()}
+        if "question" in op.says:
+            q = Question(crate, name, root)
+            files.update({q.name + "_checked": q.checked(), q.name + "_told": q.told()})
+        for function, text in files.items():
+            path = os.path.join(root, "crates", crate, "proofs", function, "Proof.antt")
+            text = laid_out(text)
+            if check:
+                same = os.path.exists(path) and open(path, encoding="utf-8").read() == text
+                stale += not same
+                print(f"{crate} {function}: " + ("as written" if same else "NOT as the script writes it"))
+                continue
+            os.makedirs(os.path.dirname(path), exist_ok=True)
+            with open(path, "w", encoding="utf-8") as f:
+                f.write(text)
+            print(f"crates/{crate}/proofs/{function}/Proof.antt" + (f": {op.locals} locals" if function == name else ""))
     sys.exit(1 if stale else 0)
 
 

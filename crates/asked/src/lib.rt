@@ -1,0 +1,74 @@
+// The answers of public questions: the paper's number of an answer, and how much it takes, told to the caller in a lent place.
+ghost use mathlib.Core.Path.{_≡_};
+ghost use Rattle.asked.specs.Asks.{numberOf, toldIn, toldBy, ofListed, ofPlace, ofTold, gives};
+use answers::Listed;
+use answers::Place;
+use answers::Told;
+
+// Puts n into the first place, where there is one.
+pub fn tell(told: &mut [u64], n: u64)
+    ensures { λ _. ⌜ now (told .exit) ≡ toldIn (now (told .entry)) n ⌝ }
+{
+    if 0 < told.len() {
+        told[0] = n;
+    }
+}
+
+// The answer of a question with a buffer.
+pub fn listed(l: Listed, told: &mut [u64]) -> u32
+    ensures { λ r. ⌜ r ≡ numberOf (ofListed l) ⌝ }
+    ensures { λ _. ⌜ now (told .exit) ≡ toldBy (ofListed l) (now (told .entry)) ⌝ }
+{
+    match l {
+        Listed::Done(n) => {
+            tell(told, n as u64);
+            0
+        }
+        Listed::Malformed => 2,
+        Listed::NotFound => 13,
+        Listed::NoOwner => 14,
+        Listed::Short => 15,
+    }
+}
+
+// The answer of a question for a node's number.
+pub fn place(p: Place, told: &mut [u64]) -> u32
+    ensures { λ r. ⌜ r ≡ numberOf (ofPlace p) ⌝ }
+    ensures { λ _. ⌜ now (told .exit) ≡ toldBy (ofPlace p) (now (told .entry)) ⌝ }
+{
+    match p {
+        Place::At(k) => {
+            tell(told, k as u64);
+            0
+        }
+        Place::Malformed => 2,
+        Place::NotFound => 13,
+    }
+}
+
+// The answer of a question for yes or no.
+pub fn yes_no(t: Told, told: &mut [u64]) -> u32
+    ensures { λ r. ⌜ r ≡ numberOf (ofTold t) ⌝ }
+    ensures { λ _. ⌜ now (told .exit) ≡ toldBy (ofTold t) (now (told .entry)) ⌝ }
+{
+    match t {
+        Told::Yes => {
+            tell(told, 1);
+            0
+        }
+        Told::No => {
+            tell(told, 0);
+            0
+        }
+        Told::Malformed => 2,
+    }
+}
+
+// The answer of a question for a number, which is never refused.
+pub fn count(n: u64, told: &mut [u64]) -> u32
+    ensures { λ r. ⌜ r ≡ numberOf (gives n) ⌝ }
+    ensures { λ _. ⌜ now (told .exit) ≡ toldBy (gives n) (now (told .entry)) ⌝ }
+{
+    tell(told, n);
+    0
+}
