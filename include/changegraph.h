@@ -100,6 +100,103 @@ uint32_t cg_insert_actor(const uint8_t *hashes, size_t hashes_len, uint32_t *nod
 uint32_t cg_remove_actor(const uint8_t *hashes, size_t hashes_len, uint32_t *nodes, size_t nodes_len, const Edge *edges, size_t edges_len,
                          uint32_t *clocks, size_t clocks_len, uint32_t *counts, size_t counts_len, uint64_t place);
 
+/* ---- questions
+ *
+ * A question is lent the tables, its own arguments, an answer buffer where it has one, and a place for how much the answer takes. It gives the first of these
+ * that holds: CG_NOT_VALID, CG_MALFORMED, its own refusal (CG_NOT_FOUND or CG_NO_OWNER), CG_SHORT_BUFFER where the buffer is shorter than the answer, else CG_DONE.
+ * Only with CG_DONE is anything written: the answer at the start of `out` (what lies past it stays), and told[0]. With every other number the buffer and the
+ * places are as they were. The tables are only read.
+ *
+ * told[0] is how many elements of `out` the answer takes: bytes for hashes, entries for numbers. A question without a buffer tells its whole answer there.
+ * `told_len` may be 0: then nothing is told, which is no refusal. Places past the first stay.
+ *
+ * Hashes are 32 bytes each, one after the other. Changes are numbered from 0 in the order in which they were added. */
+
+/* The sequence clock of a list of hashes: out[a] is the largest sequence of actor a in the history of the known ones among them, 0 for nothing.
+ * As many entries as there are actors, whatever the list. A list of any length; repeats and unknown hashes change nothing.
+ * CG_DONE, CG_NOT_VALID, CG_MALFORMED (the list is no multiple of 32 bytes), CG_SHORT_BUFFER. */
+uint32_t cg_clock_of(const uint8_t *hashes, size_t hashes_len, const uint32_t *nodes, size_t nodes_len, const Edge *edges, size_t edges_len,
+                     const uint32_t *clocks, size_t clocks_len, const uint32_t *counts, size_t counts_len,
+                     const uint8_t *list, size_t list_len, uint32_t *out, size_t out_len, uint64_t *told, size_t told_len);
+
+/* What is missing to who has the hashes of the have-list: the hashes of every change whose sequence is above its actor's entry in the list's clock, in the
+ * order of changes. With an empty have-list (have_len is 0) that is all of them, and they are not copied: nothing is written to `out`, whatever its length, and
+ * the answer is the first told[0] bytes of the hash table itself. cg_missing_shown gives the right pointer in both cases.
+ * CG_DONE, CG_NOT_VALID, CG_MALFORMED (the have-list is no multiple of 32 bytes), CG_SHORT_BUFFER (never with an empty have-list). */
+uint32_t cg_missing(const uint8_t *hashes, size_t hashes_len, const uint32_t *nodes, size_t nodes_len, const Edge *edges, size_t edges_len,
+                    const uint32_t *clocks, size_t clocks_len, const uint32_t *counts, size_t counts_len,
+                    const uint8_t *have, size_t have_len, uint8_t *out, size_t out_len, uint64_t *told, size_t told_len);
+
+/* Where the missing list stands after cg_missing answered CG_DONE: in the hash table with an empty have-list, else in the answer buffer. */
+static inline const uint8_t *cg_missing_shown(const uint8_t *hashes, const uint8_t *out, size_t have_len) { return have_len == 0 ? hashes : out; }
+
+/* The hash of the change that owns the op: the actor's change of lowest sequence whose op range, max op - op count + 1 to max op, holds the counter.
+ * 32 bytes. CG_DONE, CG_NOT_VALID, CG_NO_OWNER (also for an unknown actor), CG_SHORT_BUFFER. */
+uint32_t cg_owner(const uint8_t *hashes, size_t hashes_len, const uint32_t *nodes, size_t nodes_len, const Edge *edges, size_t edges_len,
+                  const uint32_t *clocks, size_t clocks_len, const uint32_t *counts, size_t counts_len,
+                  uint64_t actor, uint64_t counter, uint8_t *out, size_t out_len, uint64_t *told, size_t told_len);
+
+/* The hashes of the heads, which are the changes that no other depends on, in ascending order of their bytes. CG_DONE, CG_NOT_VALID, CG_SHORT_BUFFER. */
+uint32_t cg_heads(const uint8_t *hashes, size_t hashes_len, const uint32_t *nodes, size_t nodes_len, const Edge *edges, size_t edges_len,
+                  const uint32_t *clocks, size_t clocks_len, const uint32_t *counts, size_t counts_len,
+                  uint8_t *out, size_t out_len, uint64_t *told, size_t told_len);
+
+/* The numbers of the heads, ascending. CG_DONE, CG_NOT_VALID, CG_SHORT_BUFFER. */
+uint32_t cg_head_indexes(const uint8_t *hashes, size_t hashes_len, const uint32_t *nodes, size_t nodes_len, const Edge *edges, size_t edges_len,
+                         const uint32_t *clocks, size_t clocks_len, const uint32_t *counts, size_t counts_len,
+                         uint32_t *out, size_t out_len, uint64_t *told, size_t told_len);
+
+/* The hash of a change by its number, 32 bytes. CG_DONE, CG_NOT_VALID, CG_NOT_FOUND, CG_SHORT_BUFFER. */
+uint32_t cg_index_to_hash(const uint8_t *hashes, size_t hashes_len, const uint32_t *nodes, size_t nodes_len, const Edge *edges, size_t edges_len,
+                          const uint32_t *clocks, size_t clocks_len, const uint32_t *counts, size_t counts_len,
+                          uint64_t index, uint8_t *out, size_t out_len, uint64_t *told, size_t told_len);
+
+/* The hash of an actor's change by its sequence, 32 bytes. CG_DONE, CG_NOT_VALID, CG_NOT_FOUND (also for an unknown actor and for sequence 0), CG_SHORT_BUFFER. */
+uint32_t cg_get_hash_for_actor_seq(const uint8_t *hashes, size_t hashes_len, const uint32_t *nodes, size_t nodes_len, const Edge *edges, size_t edges_len,
+                                   const uint32_t *clocks, size_t clocks_len, const uint32_t *counts, size_t counts_len,
+                                   uint64_t actor, uint64_t sequence, uint8_t *out, size_t out_len, uint64_t *told, size_t told_len);
+
+/* Tells the number of the change with the hash. CG_DONE, CG_NOT_VALID, CG_MALFORMED (the hash is not 32 bytes), CG_NOT_FOUND. */
+uint32_t cg_hash_to_index(const uint8_t *hashes, size_t hashes_len, const uint32_t *nodes, size_t nodes_len, const Edge *edges, size_t edges_len,
+                          const uint32_t *clocks, size_t clocks_len, const uint32_t *counts, size_t counts_len,
+                          const uint8_t *hash, size_t hash_len, uint64_t *told, size_t told_len);
+
+/* Tells 1 where the hash is that of a change, else 0. CG_DONE, CG_NOT_VALID, CG_MALFORMED (the hash is not 32 bytes). */
+uint32_t cg_has_change(const uint8_t *hashes, size_t hashes_len, const uint32_t *nodes, size_t nodes_len, const Edge *edges, size_t edges_len,
+                       const uint32_t *clocks, size_t clocks_len, const uint32_t *counts, size_t counts_len,
+                       const uint8_t *hash, size_t hash_len, uint64_t *told, size_t told_len);
+
+/* Tells how many changes an actor has, which is its last change's sequence; 0 for an unknown actor. CG_DONE, CG_NOT_VALID. */
+uint32_t cg_seq_for_actor(const uint8_t *hashes, size_t hashes_len, const uint32_t *nodes, size_t nodes_len, const Edge *edges, size_t edges_len,
+                          const uint32_t *clocks, size_t clocks_len, const uint32_t *counts, size_t counts_len,
+                          uint64_t actor, uint64_t *told, size_t told_len);
+
+/* Tells the max op of an actor's last change, 0 for none. It need not be the actor's largest. CG_DONE, CG_NOT_VALID. */
+uint32_t cg_max_op_for_actor(const uint8_t *hashes, size_t hashes_len, const uint32_t *nodes, size_t nodes_len, const Edge *edges, size_t edges_len,
+                             const uint32_t *clocks, size_t clocks_len, const uint32_t *counts, size_t counts_len,
+                             uint64_t actor, uint64_t *told, size_t told_len);
+
+/* Tells the largest max op of all changes, 0 for none. CG_DONE, CG_NOT_VALID. */
+uint32_t cg_max_op(const uint8_t *hashes, size_t hashes_len, const uint32_t *nodes, size_t nodes_len, const Edge *edges, size_t edges_len,
+                   const uint32_t *clocks, size_t clocks_len, const uint32_t *counts, size_t counts_len,
+                   uint64_t *told, size_t told_len);
+
+/* Tells how many changes there are. CG_DONE, CG_NOT_VALID. */
+uint32_t cg_len(const uint8_t *hashes, size_t hashes_len, const uint32_t *nodes, size_t nodes_len, const Edge *edges, size_t edges_len,
+                const uint32_t *clocks, size_t clocks_len, const uint32_t *counts, size_t counts_len,
+                uint64_t *told, size_t told_len);
+
+/* Tells how many actors there are. CG_DONE, CG_NOT_VALID. */
+uint32_t cg_num_actors(const uint8_t *hashes, size_t hashes_len, const uint32_t *nodes, size_t nodes_len, const Edge *edges, size_t edges_len,
+                       const uint32_t *clocks, size_t clocks_len, const uint32_t *counts, size_t counts_len,
+                       uint64_t *told, size_t told_len);
+
+/* The numbers of the actors with changes (which is 0), without changes (1), or of all actors (2, and every larger number), ascending.
+ * CG_DONE, CG_NOT_VALID, CG_SHORT_BUFFER. */
+uint32_t cg_actor_ids(const uint8_t *hashes, size_t hashes_len, const uint32_t *nodes, size_t nodes_len, const Edge *edges, size_t edges_len,
+                      const uint32_t *clocks, size_t clocks_len, const uint32_t *counts, size_t counts_len,
+                      uint64_t which, uint32_t *out, size_t out_len, uint64_t *told, size_t told_len);
+
 /* ---- clocks: an entry for each actor, 0 for nothing. A count above 64 is CG_NOT_VALID, a place not below the count CG_NO_ACTOR. */
 
 typedef struct Clock {

@@ -840,7 +840,7 @@ class Question:
         source = open(os.path.join(root, "crates", crate, "src", "lib.rt"), encoding="utf-8").read()
         self.crate, self.name = crate, operation[3:]
         self.muts = [p.name for p in read_operation(source, operation)[0] if p.kind == "mut"]
-        found = re.search(r"\bfn " + self.name + r"_checked\(.*?let a = ([\w:]+)\(.*?asked::(\w+)\(", source, re.S)
+        found = re.search(r"\bfn " + self.name + r"_checked\(.*?let \w+ = ([\w:]+)\(.*?asked::(\w+)\(", source, re.S)
         if not found:
             raise SystemExit(f"opgen: {self.name}_checked is not of the shape that README.md gives")
         self.core, self.teller = found.group(1).split("::")[-1], found.group(2)

@@ -65,10 +65,19 @@ pub fn yes_no(t: Told, told: &mut [u64]) -> u32
 }
 
 // The answer of a question for a number, which is never refused.
-pub fn count(n: u64, told: &mut [u64]) -> u32
+pub fn count(n: u32, told: &mut [u64]) -> u32
     ensures { λ r. ⌜ r ≡ numberOf (gives n) ⌝ }
     ensures { λ _. ⌜ now (told .exit) ≡ toldBy (gives n) (now (told .entry)) ⌝ }
 {
-    tell(told, n);
+    tell(told, n as u64);
+    0
+}
+
+// The same for how many there are.
+pub fn size(n: usize, told: &mut [u64]) -> u32
+    ensures { λ r. ⌜ r ≡ numberOf (gives n) ⌝ }
+    ensures { λ _. ⌜ now (told .exit) ≡ toldBy (gives n) (now (told .entry)) ⌝ }
+{
+    tell(told, n as u64);
     0
 }

@@ -29,7 +29,7 @@ fn clock_of_checked(
     if !cache::valid(hashes, nodes, targets, nexts, clocks, counts) {
         return 1;
     }
-    let a = questions::seq_clock_for_heads(
+    let entries = questions::seq_clock_for_heads(
         hashes,
         nodes,
         targets,
@@ -39,7 +39,7 @@ fn clock_of_checked(
         list,
         out,
     );
-    asked::listed(a, told)
+    asked::listed(entries, told)
 }
 
 fn clock_of_told(
@@ -75,7 +75,7 @@ fn clock_of_told(
     )
 }
 
-// 1, 2 where the list is no multiple of 32 bytes, 15 where the buffer has fewer entries than there are actors.
+// The clock of the listed hashes, an entry for each actor, and how many entries that are. Answers 0; 1 where the tables are not valid; 2 where the list is no multiple of 32 bytes; 15 where the buffer has fewer entries than there are actors.
 #[no_mangle]
 pub extern "C" fn cg_clock_of(
     hashes: &[u8],

@@ -1,0 +1,46 @@
+-- `hub_hashes::get_hash_for_actor_seq_told` meets its contract: it hands the first e edges on, or refuses where there is no room for them. Assumes nothing.
+-- Written by tools/opgen.py.
+use mathlib.Core.Path.{refl, sym}
+use mathlib.Core.Logic.{inl, inr}
+use lib.Seq.{length-take-le}
+use Rattle.edges.specs.Told.{asked-none, asked-part}
+use borrow.Author.Needs.{needs}
+use Rattle.hub_hashes.proofs.get_hash_for_actor_seq_told.Statement.{statement}
+use Rattle.hub_hashes.proofs.get_hash_for_actor_seq_told.Tie as tie
+
+returns : tie.Need-returns
+returns c = asked-none _ _ _ _ (inl (c .if1 .taken)) (refl, refl, refl)
+
+returns-2 : tie.Need-returns-2
+returns-2 c = asked-none _ _ _ _ (inr (c .if2 .taken)) (refl, refl, refl)
+
+slice-aggregate-get-hash-for-actor-seq-checked : tie.Need-slice-aggregate-get-hash-for-actor-seq-checked
+slice-aggregate-get-hash-for-actor-seq-checked c = sym (length-take-le _ _ (c .before .before .if1 .left))
+
+slice-aggregate-get-hash-for-actor-seq-checked-2 : tie.Need-slice-aggregate-get-hash-for-actor-seq-checked-2
+slice-aggregate-get-hash-for-actor-seq-checked-2 c = sym (length-take-le _ _ (c .before .before .if2 .left))
+
+get-hash-for-actor-seq-checked-requires : tie.Need-get-hash-for-actor-seq-checked-requires
+get-hash-for-actor-seq-checked-requires c κs = search needs
+
+same-length : tie.Need-same-length
+same-length c = search needs
+
+same-length-2 : tie.Need-same-length-2
+same-length-2 c = search needs
+
+returns-3 : tie.Need-returns-3
+returns-3 c = asked-part _ _ _ _ (c .before .before .before .before .before .before .before .before .before .before .if1 .left) (c .before .before .before .before .before .before .before .before .before .if2 .left) (c .before .before .before .before .get-hash-for-actor-seq-checked .ensures)
+
+pub get-hash-for-actor-seq-told-spec : {M : Type 1} → statement M
+get-hash-for-actor-seq-told-spec =
+    tie.close
+    (tie.spec
+    returns
+    returns-2
+    slice-aggregate-get-hash-for-actor-seq-checked
+    slice-aggregate-get-hash-for-actor-seq-checked-2
+    get-hash-for-actor-seq-checked-requires
+    same-length
+    same-length-2
+    returns-3)

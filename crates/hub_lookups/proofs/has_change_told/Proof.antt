@@ -1,0 +1,42 @@
+-- `hub_lookups::has_change_told` meets its contract: it hands the first e edges on, or refuses where there is no room for them. Assumes nothing.
+-- Written by tools/opgen.py.
+use mathlib.Core.Path.{refl, sym}
+use mathlib.Core.Logic.{inl, inr}
+use lib.Seq.{length-take-le}
+use Rattle.edges.specs.Told.{asked-none, asked-part}
+use borrow.Author.Needs.{needs}
+use Rattle.hub_lookups.proofs.has_change_told.Statement.{statement}
+use Rattle.hub_lookups.proofs.has_change_told.Tie as tie
+
+returns : tie.Need-returns
+returns c = asked-none _ _ _ _ (inl (c .if1 .taken)) (refl, refl, refl)
+
+returns-2 : tie.Need-returns-2
+returns-2 c = asked-none _ _ _ _ (inr (c .if2 .taken)) (refl, refl, refl)
+
+slice-aggregate-has-change-checked : tie.Need-slice-aggregate-has-change-checked
+slice-aggregate-has-change-checked c = sym (length-take-le _ _ (c .before .before .if1 .left))
+
+slice-aggregate-has-change-checked-2 : tie.Need-slice-aggregate-has-change-checked-2
+slice-aggregate-has-change-checked-2 c = sym (length-take-le _ _ (c .before .before .if2 .left))
+
+has-change-checked-requires : tie.Need-has-change-checked-requires
+has-change-checked-requires c κs = search needs
+
+same-length : tie.Need-same-length
+same-length c = search needs
+
+returns-3 : tie.Need-returns-3
+returns-3 c = asked-part _ _ _ _ (c .before .before .before .before .before .before .before .if1 .left) (c .before .before .before .before .before .before .if2 .left) (c .before .before .has-change-checked .ensures)
+
+pub has-change-told-spec : {M : Type 1} → statement M
+has-change-told-spec =
+    tie.close
+    (tie.spec
+    returns
+    returns-2
+    slice-aggregate-has-change-checked
+    slice-aggregate-has-change-checked-2
+    has-change-checked-requires
+    same-length
+    returns-3)

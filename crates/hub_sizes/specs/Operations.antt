@@ -1,0 +1,29 @@
+-- What each public question for how many there are, and for the actors comes to.
+-- Assumes nothing.
+use mathlib.Core.List.{List}
+use Prim.Native.Nat.{ℕ, zero, suc}
+use lib.ListN.{length}
+use Rattle.tables.specs.Tables.{Tables, graph, actors}
+use Rattle.answers.specs.Answers.{listed, filled}
+use Rattle.lookups.specs.Lookups.{actor-list}
+use Rattle.lookups.specs.declared.Which.{Which}
+use Rattle.lookups.specs.declared.Which.the-variants.{Used, Unused, All}
+use Rattle.asked.specs.Asks.{gives, ofListed, Asks, Tells}
+
+-- the actors with changes, without, or all, by a number
+unfoldable pub whichOf : ℕ → Which
+whichOf zero = Used
+whichOf (suc zero) = Unused
+whichOf (suc (suc n)) = All
+
+-- asking the tables t for the number of changes answers r and leaves told′
+abbrev pub Len : List ℕ → ℕ → List ℕ → Tables → Type 0
+Len told r told′ t = Tells gives (λ t. graph t .size) told r told′ t
+
+-- asking for the number of actors
+abbrev pub NumActors : List ℕ → ℕ → List ℕ → Tables → Type 0
+NumActors told r told′ t = Tells gives (λ t. actors t) told r told′ t
+
+-- asking for the actors, which are listed by the number, answers r and leaves out′ and told′
+abbrev pub ActorIds : ℕ → List ℕ → List ℕ → ℕ → List ℕ → List ℕ → Tables → Type 0
+ActorIds which out told r out′ told′ t = Asks ofListed (λ t. listed (actor-list t (whichOf which)) (length out)) (λ t. filled (actor-list t (whichOf which)) out) out told r out′ told′ t
