@@ -1,5 +1,6 @@
 -- What each public question for how many there are, and for the actors comes to.
 -- Assumes nothing.
+use mathlib.Core.Path.{_≡_, refl}
 use mathlib.Core.List.{List}
 use Prim.Native.Nat.{ℕ, zero, suc}
 use lib.ListN.{length}
@@ -15,6 +16,20 @@ unfoldable pub whichOf : ℕ → Which
 whichOf zero = Used
 whichOf (suc zero) = Unused
 whichOf (suc (suc n)) = All
+
+pub which-used : (n : ℕ) → n ≡ 0 → Used ≡ whichOf n
+unfolding whichOf
+which-used n e = rw e refl
+
+pub which-unused : (n : ℕ) → n ≡ 1 → Unused ≡ whichOf n
+unfolding whichOf
+which-unused n e = rw e refl
+
+pub which-all : (n : ℕ) → (n ≡ 0 → ⊥) → (n ≡ 1 → ⊥) → All ≡ whichOf n
+unfolding whichOf
+which-all zero a b = absurd (a refl)
+which-all (suc zero) a b = absurd (b refl)
+which-all (suc (suc n)) a b = refl
 
 -- asking the tables t for the number of changes answers r and leaves told′
 abbrev pub Len : List ℕ → ℕ → List ℕ → Tables → Type 0
