@@ -8,3 +8,6 @@ pub mod OwnerLaws
 pub mod HeadsLaws
 pub mod ClockLaws
 pub mod MissingLaws
+pub mod SizeLaws
+pub mod ReadLaws
+pub mod ArmLaws

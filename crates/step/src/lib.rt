@@ -6,7 +6,7 @@ ghost use lib.ListN.{length};
 ghost use Prim.Native.Nat.{_%_};
 ghost use Rattle.paper.specs.Lists.{hashes-of};
 ghost use Rattle.paper.specs.Adding.{judged};
-ghost use Rattle.paper.specs.Command.{addWord, heads, clock, missing, owner};
+ghost use Rattle.paper.specs.Command.{addWord, heads, clock, missing, owner, commandOf};
 ghost use Rattle.paper.specs.Session.{answerLine, verdictText, answer};
 ghost use Rattle.tables.specs.Tables.{tables};
 ghost use Rattle.tables.specs.Valid.{Valid};
@@ -15,13 +15,21 @@ ghost use Rattle.judge.specs.Hub.{hub};
 ghost use Rattle.graph.specs.Place.{added};
 ghost use Rattle.reply.specs.Said.{Said};
 ghost use Rattle.step.specs.Added.{missingOf, Named, judgedText};
-ghost use Rattle.step.specs.Step.{Bench};
-ghost use Rattle.step.specs.Lines.{countOf};
+ghost use Rattle.step.specs.Step.{tablesAfter, Bench, Stepped};
+ghost use Rattle.step.specs.Lines.{countOf, toldOf};
 use answers::Listed;
+use command::Line;
 use hash::Found;
 use hash::Missing;
 use judge::Judged;
 use print::Put;
+
+// What one line gives: the place past its answer, that the answer does not fit, or that it is no line that asks.
+pub enum Told {
+    Said(usize),
+    Full,
+    Bad,
+}
 
 // The place of the dependency that is unknown, where that is what adding came to.
 fn unknown_of(j: Judged) -> Missing
@@ -216,4 +224,105 @@ pub fn missing_line(
     ));
     let shown = missing::missing_shown(hashes, &answer, list, n);
     reply::put_missing(out, at, shown, n / 32)
+}
+
+// A line whose answer was written, or does not fit.
+fn told_of(p: Put) -> Told
+    ensures { λ r. ⌜ r ≡ toldOf p ⌝ }
+{
+    match p {
+        Put::Next(n) => Told::Said(n),
+        Put::Full => Told::Full,
+    }
+}
+
+// One line that asks: what it does to the tables, and its answer. A line that does not ask changes nothing.
+pub fn step(
+    line: &[u8],
+    hashes: &mut [u8],
+    nodes: &mut [u32],
+    targets: &mut [u32],
+    nexts: &mut [u32],
+    clocks: &mut [u32],
+    counts: &mut [u32],
+    out: &mut [u8],
+    at: usize,
+) -> Told
+    requires { ⌜ Valid (tables (now hashes) (now nodes) (now targets) (now nexts) (now clocks) (now counts)) ⌝ }
+    requires { ⌜ Bench (hub (tables (now hashes) (now nodes) (now targets) (now nexts) (now clocks) (now counts))) ⌝ }
+    requires { ⌜ (length (now line) ≤ 2400) × (at ≤ length (now out)) ⌝ }
+    ensures { λ r. ⌜ Stepped (tables (now (hashes .entry)) (now (nodes .entry)) (now (targets .entry)) (now (nexts .entry)) (now (clocks .entry)) (now (counts .entry))) (commandOf (now (line .entry))) at r (now (out .entry)) (now (out .exit)) ⌝ }
+    ensures { λ _. ⌜ tables (now (hashes .exit)) (now (nodes .exit)) (now (targets .exit)) (now (nexts .exit)) (now (clocks .exit)) (now (counts .exit)) ≡ tablesAfter (tables (now (hashes .entry)) (now (nodes .entry)) (now (targets .entry)) (now (nexts .entry)) (now (clocks .entry)) (now (counts .entry))) (commandOf (now (line .entry))) ⌝ }
+{
+    let mut hash = [0u8; 32];
+    let mut list = [0u8; 1152];
+    match command::read(line, &mut hash, &mut list) {
+        Line::Heads => told_of(heads_line(hashes, nodes, targets, nexts, clocks, counts, out, at)),
+        Line::Clock(n) => {
+            let e = 32 * n;
+            told_of(clock_line(
+                hashes,
+                nodes,
+                targets,
+                nexts,
+                clocks,
+                counts,
+                &list[0..e],
+                out,
+                at,
+            ))
+        }
+        Line::Missing(n) => {
+            let e = 32 * n;
+            told_of(missing_line(
+                hashes,
+                nodes,
+                targets,
+                nexts,
+                clocks,
+                counts,
+                &list[0..e],
+                out,
+                at,
+            ))
+        }
+        Line::Owner(actor, counter) => told_of(owner_line(
+            hashes,
+            nodes,
+            targets,
+            nexts,
+            clocks,
+            counts,
+            actor,
+            counter,
+            out,
+            at,
+        )),
+        Line::Add {
+            actor,
+            seq,
+            max_op,
+            ops,
+            deps,
+        } => {
+            let e = 32 * deps;
+            told_of(add_line(
+                hashes,
+                nodes,
+                targets,
+                nexts,
+                clocks,
+                counts,
+                &hash,
+                actor,
+                seq,
+                max_op,
+                ops,
+                &list[0..e],
+                out,
+                at,
+            ))
+        }
+        Line::Bad => Told::Bad,
+    }
 }
