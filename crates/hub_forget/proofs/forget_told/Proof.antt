@@ -1,0 +1,36 @@
+-- `hub_forget::forget_told` meets its contract: it hands the first e edges on, or refuses where there is no room for them.
+-- Assumes nothing.
+use mathlib.Core.Path.{refl, sym}
+use mathlib.Core.Logic.{inl, inr}
+use lib.Seq.{length-take-le}
+use Rattle.edges.specs.Told.{asked-none, asked-part}
+use borrow.Author.Needs.{needs}
+use Rattle.hub_forget.proofs.forget_told.Statement.{statement}
+use Rattle.hub_forget.proofs.forget_told.Tie as tie
+
+returns : tie.Need-returns
+returns c = asked-none _ _ _ _ (inl (c .if1 .taken)) (refl, refl)
+
+returns-2 : tie.Need-returns-2
+returns-2 c = asked-none _ _ _ _ (inr (c .if2 .taken)) (refl, refl)
+
+slice-aggregate-forget-checked : tie.Need-slice-aggregate-forget-checked
+slice-aggregate-forget-checked c = sym (length-take-le _ _ (c .before .before .if1 .left))
+
+slice-aggregate-forget-checked-2 : tie.Need-slice-aggregate-forget-checked-2
+slice-aggregate-forget-checked-2 c = sym (length-take-le _ _ (c .before .before .if2 .left))
+
+returns-3 : tie.Need-returns-3
+returns-3 c = asked-part _ _ _ _ (c .before .before .before .before .before .before .before .if1 .left) (c .before .before .before .before .before .before .if2 .left) (c .before .before .forget-checked .ensures)
+
+pub forget-told-spec : {M : Type 1} → statement M
+forget-told-spec =
+    tie.close
+    (tie.spec
+    returns
+    returns-2
+    slice-aggregate-forget-checked
+    slice-aggregate-forget-checked-2
+    (λ c κs. search needs)
+    (λ c. search needs)
+    returns-3)
