@@ -1,67 +1,28 @@
-use borrow.Author.Needs.{needs}
-use native.Mathlib.Omega.{arith}
+-- `hub_load::load_told` meets its contract: it hands the first e edges on, or refuses where there is no room for them.
+-- Assumes nothing.
+use mathlib.Core.Path.{sym, _∙_}
+use mathlib.Core.Logic.{inl, inr}
+use lib.Seq.{length-take-le}
+use Rattle.edges.specs.Told.{told-none, told-part}
 use borrow.Author.Needs.{needs}
 use Rattle.hub_load.proofs.load_told.Statement.{statement}
 use Rattle.hub_load.proofs.load_told.Tie as tie
-use Rattle.hub_load.proofs.load_told.Reads as reads
-use Rattle.hub_load.proofs.load_told.Lts as lts
-use Rattle.hub_load.proofs.load_checked.Reads as load-checked-reads
 
--- src/lib.rt:76:9
 returns : tie.Need-returns
-returns c = ?
+returns c = told-none _ _ _ (inl (c .if1 .taken))
 
--- src/lib.rt:79:9
 returns-2 : tie.Need-returns-2
-returns-2 c = ?
+returns-2 c = told-none _ _ _ (inr (c .if2 .taken))
 
--- src/lib.rt:84:9
-slice-relend-prefix-load-checked : tie.Need-slice-relend-prefix-load-checked
-slice-relend-prefix-load-checked c = search needs
-
--- src/lib.rt:84:9
 slice-aggregate-load-checked : tie.Need-slice-aggregate-load-checked
-slice-aggregate-load-checked c = search needs
+slice-aggregate-load-checked c = sym (length-take-le _ _ (c .before .before .before .before .if1 .left))
 
--- src/lib.rt:85:9
-slice-relend-prefix-load-checked-2 : tie.Need-slice-relend-prefix-load-checked-2
-slice-relend-prefix-load-checked-2 c = search needs
-
--- src/lib.rt:85:9
 slice-aggregate-load-checked-2 : tie.Need-slice-aggregate-load-checked-2
-slice-aggregate-load-checked-2 c = search needs
+slice-aggregate-load-checked-2 c = sym (length-take-le _ _ (c .before .before .before .before .if2 .left))
 
--- src/lib.rt:81:5
-load-checked-requires : tie.Need-load-checked-requires
-load-checked-requires c κs = search needs
-
--- src/lib.rt:55:1
-same-length : tie.Need-same-length
-same-length c = search needs
-
--- src/lib.rt:55:1
-same-length-2 : tie.Need-same-length-2
-same-length-2 c = search needs
-
--- src/lib.rt:55:1
-same-length-3 : tie.Need-same-length-3
-same-length-3 c = search needs
-
--- src/lib.rt:55:1
-same-length-4 : tie.Need-same-length-4
-same-length-4 c = search needs
-
--- src/lib.rt:55:1
-same-length-5 : tie.Need-same-length-5
-same-length-5 c = search needs
-
--- src/lib.rt:55:1
-same-length-6 : tie.Need-same-length-6
-same-length-6 c = search needs
-
--- src/lib.rt:55:1
 returns-3 : tie.Need-returns-3
-returns-3 c = ?
+returns-3 c = let a = c .before .before .before .before .before .before .before .before .before .before .before .before .before .before .before .before .before .before .before .before .if1 .left in let b = c .before .before .before .before .before .before .before .before .before .before .before .before .before .before .before .before .before .before .before .if2 .left in let o = c .before .before .before .before .before .before .before .before .before .before .before .before .load-checked in
+    told-part _ _ _ _ _ _ a b (o .kept .1 .1 .0 ∙ length-take-le _ _ a) (o .kept .1 .1 .1 .0 ∙ length-take-le _ _ b) _ _ _ _ _ _ _ _ _ (o .ensures)
 
 pub load-told-spec : {M : Type 1} → statement M
 load-told-spec =
@@ -69,15 +30,15 @@ load-told-spec =
     (tie.spec
     returns
     returns-2
-    slice-relend-prefix-load-checked
+    (λ c. search needs)
     slice-aggregate-load-checked
-    slice-relend-prefix-load-checked-2
+    (λ c. search needs)
     slice-aggregate-load-checked-2
-    load-checked-requires
-    same-length
-    same-length-2
-    same-length-3
-    same-length-4
-    same-length-5
-    same-length-6
+    (λ c κs. search needs)
+    (λ c. search needs)
+    (λ c. search needs)
+    (λ c. search needs)
+    (λ c. search needs)
+    (λ c. search needs)
+    (λ c. search needs)
     returns-3)
