@@ -6,7 +6,7 @@ ghost use Rattle.tables.specs.Tables.{tables};
 ghost use Rattle.edges.specs.Edges.{lent};
 ghost use Rattle.edges.specs.Told.{Asked};
 ghost use Rattle.release.specs.Release.{numberOf};
-ghost use Rattle.hub_release.specs.Operations.{store, countIn, Freed, FreedBy};
+ghost use Rattle.hub_release.specs.Operations.{stock, countIn, Freed, FreedBy};
 use edges::Edge;
 use release::Released;
 
@@ -45,7 +45,7 @@ pub extern "C" fn cg_queue_release(
     tdeps: &mut [u8],
     told: &mut [u64],
 ) -> u32
-    ensures { λ r. ⌜ Freed (now (hashes .entry)) known (store (now (qhashes .entry)) (now (qnumbers .entry)) (now (qdeps .entry)) (now (qcount .entry)) (now (thashes .entry)) (now (tnumbers .entry)) (now (tdeps .entry)) (now (told .entry))) r (store (now (qhashes .exit)) (now (qnumbers .exit)) (now (qdeps .exit)) (now (qcount .exit)) (now (thashes .exit)) (now (tnumbers .exit)) (now (tdeps .exit)) (now (told .exit))) ⌝ }
+    ensures { λ r. ⌜ Freed (now (hashes .entry)) known (stock (now (qhashes .entry)) (now (qnumbers .entry)) (now (qdeps .entry)) (now (qcount .entry)) (now (thashes .entry)) (now (tnumbers .entry)) (now (tdeps .entry)) (now (told .entry))) r (stock (now (qhashes .exit)) (now (qnumbers .exit)) (now (qdeps .exit)) (now (qcount .exit)) (now (thashes .exit)) (now (tnumbers .exit)) (now (tdeps .exit)) (now (told .exit))) ⌝ }
 {
     let a = release::release(
         hashes,
@@ -79,7 +79,7 @@ fn release_checked(
     tdeps: &mut [u8],
     told: &mut [u64],
 ) -> u32
-    ensures { λ r. ⌜ FreedBy (store (now (qhashes .entry)) (now (qnumbers .entry)) (now (qdeps .entry)) (now (qcount .entry)) (now (thashes .entry)) (now (tnumbers .entry)) (now (tdeps .entry)) (now (told .entry))) r (store (now (qhashes .exit)) (now (qnumbers .exit)) (now (qdeps .exit)) (now (qcount .exit)) (now (thashes .exit)) (now (tnumbers .exit)) (now (tdeps .exit)) (now (told .exit))) (tables (now (hashes .entry)) (now (nodes .entry)) (now (targets .entry)) (now (nexts .entry)) (now (clocks .entry)) (now (counts .entry))) ⌝ }
+    ensures { λ r. ⌜ FreedBy (stock (now (qhashes .entry)) (now (qnumbers .entry)) (now (qdeps .entry)) (now (qcount .entry)) (now (thashes .entry)) (now (tnumbers .entry)) (now (tdeps .entry)) (now (told .entry))) r (stock (now (qhashes .exit)) (now (qnumbers .exit)) (now (qdeps .exit)) (now (qcount .exit)) (now (thashes .exit)) (now (tnumbers .exit)) (now (tdeps .exit)) (now (told .exit))) (tables (now (hashes .entry)) (now (nodes .entry)) (now (targets .entry)) (now (nexts .entry)) (now (clocks .entry)) (now (counts .entry))) ⌝ }
 {
     if !cache::valid(hashes, nodes, targets, nexts, clocks, counts) {
         return 1;
@@ -116,7 +116,7 @@ fn release_told(
     tdeps: &mut [u8],
     told: &mut [u64],
 ) -> u32
-    ensures { λ r. ⌜ Asked (FreedBy (store (now (qhashes .entry)) (now (qnumbers .entry)) (now (qdeps .entry)) (now (qcount .entry)) (now (thashes .entry)) (now (tnumbers .entry)) (now (tdeps .entry)) (now (told .entry))) r (store (now (qhashes .exit)) (now (qnumbers .exit)) (now (qdeps .exit)) (now (qcount .exit)) (now (thashes .exit)) (now (tnumbers .exit)) (now (tdeps .exit)) (now (told .exit)))) ((r ≡ 1) × (store (now (qhashes .exit)) (now (qnumbers .exit)) (now (qdeps .exit)) (now (qcount .exit)) (now (thashes .exit)) (now (tnumbers .exit)) (now (tdeps .exit)) (now (told .exit)) ≡ store (now (qhashes .entry)) (now (qnumbers .entry)) (now (qdeps .entry)) (now (qcount .entry)) (now (thashes .entry)) (now (tnumbers .entry)) (now (tdeps .entry)) (now (told .entry)))) e (tables (now (hashes .entry)) (now (nodes .entry)) (now (targets .entry)) (now (nexts .entry)) (now (clocks .entry)) (now (counts .entry))) ⌝ }
+    ensures { λ r. ⌜ Asked (FreedBy (stock (now (qhashes .entry)) (now (qnumbers .entry)) (now (qdeps .entry)) (now (qcount .entry)) (now (thashes .entry)) (now (tnumbers .entry)) (now (tdeps .entry)) (now (told .entry))) r (stock (now (qhashes .exit)) (now (qnumbers .exit)) (now (qdeps .exit)) (now (qcount .exit)) (now (thashes .exit)) (now (tnumbers .exit)) (now (tdeps .exit)) (now (told .exit)))) ((r ≡ 1) × (stock (now (qhashes .exit)) (now (qnumbers .exit)) (now (qdeps .exit)) (now (qcount .exit)) (now (thashes .exit)) (now (tnumbers .exit)) (now (tdeps .exit)) (now (told .exit)) ≡ stock (now (qhashes .entry)) (now (qnumbers .entry)) (now (qdeps .entry)) (now (qcount .entry)) (now (thashes .entry)) (now (tnumbers .entry)) (now (tdeps .entry)) (now (told .entry)))) e (tables (now (hashes .entry)) (now (nodes .entry)) (now (targets .entry)) (now (nexts .entry)) (now (clocks .entry)) (now (counts .entry))) ⌝ }
 {
     if targets.len() < e {
         return 1;
@@ -158,7 +158,7 @@ pub extern "C" fn cg_release(
     tdeps: &mut [u8],
     told: &mut [u64],
 ) -> u32
-    ensures { λ r. ⌜ FreedBy (store (now (qhashes .entry)) (now (qnumbers .entry)) (now (qdeps .entry)) (now (qcount .entry)) (now (thashes .entry)) (now (tnumbers .entry)) (now (tdeps .entry)) (now (told .entry))) r (store (now (qhashes .exit)) (now (qnumbers .exit)) (now (qdeps .exit)) (now (qcount .exit)) (now (thashes .exit)) (now (tnumbers .exit)) (now (tdeps .exit)) (now (told .exit))) (lent (now (hashes .entry)) (now (nodes .entry)) (now (edges .entry)) (now (clocks .entry)) (now (counts .entry))) ⌝ }
+    ensures { λ r. ⌜ FreedBy (stock (now (qhashes .entry)) (now (qnumbers .entry)) (now (qdeps .entry)) (now (qcount .entry)) (now (thashes .entry)) (now (tnumbers .entry)) (now (tdeps .entry)) (now (told .entry))) r (stock (now (qhashes .exit)) (now (qnumbers .exit)) (now (qdeps .exit)) (now (qcount .exit)) (now (thashes .exit)) (now (tnumbers .exit)) (now (tdeps .exit)) (now (told .exit))) (lent (now (hashes .entry)) (now (nodes .entry)) (now (edges .entry)) (now (clocks .entry)) (now (counts .entry))) ⌝ }
 {
     let mut targets = [0u32; 16384];
     let mut nexts = [0u32; 16384];

@@ -28,9 +28,9 @@ add-requires c κs = right (c .before .before .before .before .before .before)
 
 returns-2 : tie.Need-returns-2
 returns-2 c = let o = c .before .before .before .before .before .before .before .before .before .before .before .before .before .before .before .before .before .add .ensures in record {
-      tables = record { met = λ _. (c .number .ensures ∙ ap numberOf (o .0), o .1); unmet = λ w. absurd (w (right (c .before .before .before .before .before .before .before .before .before .before .before .before .before .before .before .before .before .before .before .before .before .before .before .before))) };
-      place = record { met = λ _. c .before .before .before .tell-unknown .ensures ∙ ap (λ (j : Judged). unknownIn j (now (c .before .before .before .before .before .before .before .before .before .before .before .before .before .before .before .before .before .before .before .before .before .before .before .before .before .before .before .before .before .before .before .before .before .before .before .before .before .before .before .before .before .args .unknown))) (o .0); unmet = λ w. absurd (w (right (c .before .before .before .before .before .before .before .before .before .before .before .before .before .before .before .before .before .before .before .before .before .before .before .before))) };
-    }
+  tables = record { met = λ _. (c .number .ensures ∙ ap numberOf (o .0), o .1); unmet = λ w. absurd (w (right (c .before .before .before .before .before .before .before .before .before .before .before .before .before .before .before .before .before .before .before .before .before .before .before .before))) };
+  place = record { met = λ _. c .before .before .before .tell-unknown .ensures ∙ ap (λ (j : Judged). unknownIn j (now (c .before .before .before .before .before .before .before .before .before .before .before .before .before .before .before .before .before .before .before .before .before .before .before .before .before .before .before .before .before .before .before .before .before .before .before .before .before .before .before .before .before .args .unknown))) (o .0); unmet = λ w. absurd (w (right (c .before .before .before .before .before .before .before .before .before .before .before .before .before .before .before .before .before .before .before .before .before .before .before .before))) };
+}
 
 pub add-checked-spec : {M : Type 1} → statement M
 add-checked-spec =

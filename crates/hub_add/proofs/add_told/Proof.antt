@@ -26,11 +26,10 @@ slice-aggregate-add-checked-2 : tie.Need-slice-aggregate-add-checked-2
 slice-aggregate-add-checked-2 c = sym (length-take-le _ _ (c .before .before .before .before .if2 .left))
 
 returns-3 : tie.Need-returns-3
-returns-3 c = let a = c .before .before .before .before .before .before .before .before .before .before .before .before .before .before .before .before .before .before .before .before .before .before .before .if1 .left in let b = c .before .before .before .before .before .before .before .before .before .before .before .before .before .before .before .before .before .before .before .before .before .before .if2 .left in let o = c .before .before .before .before .before .before .before .before .before .before .before .before .before .before .add-checked in
-    (
-      told-part _ _ _ _ _ _ a b (o .kept .1 .1 .0 ∙ length-take-le _ _ a) (o .kept .1 .1 .1 .0 ∙ length-take-le _ _ b) _ _ _ _ _ _ _ _ _ (o .ensures),
-      λ w. absurd (roomy a b w),
-    )
+returns-3 c = let a = c .before .before .before .before .before .before .before .before .before .before .before .before .before .before .before .before .before .before .before .before .before .before .before .if1 .left in let b = c .before .before .before .before .before .before .before .before .before .before .before .before .before .before .before .before .before .before .before .before .before .before .if2 .left in let o = c .before .before .before .before .before .before .before .before .before .before .before .before .before .before .add-checked in (
+  told-part _ _ _ _ _ _ a b (o .kept .1 .1 .0 ∙ length-take-le _ _ a) (o .kept .1 .1 .1 .0 ∙ length-take-le _ _ b) _ _ _ _ _ _ _ _ _ (o .ensures),
+  λ w. absurd (roomy a b w),
+)
 
 pub add-told-spec : {M : Type 1} → statement M
 add-told-spec =
