@@ -81,7 +81,7 @@ judged-small TooManyDeps = omega arith
 judged-small NoNodeRoom = omega arith
 judged-small NoEdgeRoom = omega arith
 
-outcome-small : (o : Outcome) → number o ≤ 18
+pub outcome-small : (o : Outcome) → number o ≤ 18
 outcome-small done = omega arith
 outcome-small not-valid = omega arith
 outcome-small malformed = omega arith
@@ -158,7 +158,7 @@ demand-3 a os t t₀ t′ l p runs =
 -- ---- demand 1, of the tables: every answer is one of the paper's numbers, and every number but 0 leaves the tables as they were
 
 -- lists of numbers that are not different are the same
-stable : (xs ys : List ℕ) → ((xs ≡ ys → ⊥) → ⊥) → xs ≡ ys
+pub stable : (xs ys : List ℕ) → ((xs ≡ ys → ⊥) → ⊥) → xs ≡ ys
 stable xs ys n = by-bool (sameList xs ys) (same→eq xs ys) (λ f. absurd (n (λ e. not-both (eq→same xs ys e) f)))
 
 pub refused-keeps : (o : Operation) (t t′ : Tables) (r : ℕ) → Promised o t r t′ → (r ≡ 0 → ⊥) → t′ ≡ t

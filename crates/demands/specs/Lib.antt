@@ -1,2 +1,5 @@
 pub mod Operations
 pub mod Demands
+pub mod Questions
+pub mod QuestionLaws
+pub mod Waiting

@@ -1,0 +1,101 @@
+-- Demand 1, of the questions: every answer is one of the paper's numbers, and every number but 0 leaves the buffer and the places as they were.
+-- Assumes nothing.
+use mathlib.Core.Path.{_≡_, refl, sym, ap, _∙_}
+use mathlib.Core.Bool.{Bool, true, false, cond}
+use mathlib.Core.List.{List, _++_}
+use Prim.Native.Nat.{ℕ, _*_, _≤_}
+use native.Mathlib.Omega.{arith}
+use lib.Dec.{leb, ltb, eqb}
+use lib.ListN.{length, drop}
+use borrow.Author.Tests.{leb-true, leb-false}
+use Rattle.paper.proofs.Bools.{by-bool}
+use Rattle.paper.specs.Graph.{Graph, head-nodes, change-at, owner}
+use Rattle.tables.specs.Tables.{Tables, graph}
+use Rattle.tables.specs.Valid.{Valid}
+use Rattle.answers.specs.Answers.{listed, filled, whole-list, one-hash, node-hash, node-hash-filled}
+use Rattle.answers.specs.declared.Listed.{Listed}
+use Rattle.answers.specs.declared.Listed.the-variants.{Done, Malformed, NotFound, NoOwner, Short}
+use Rattle.lookups.specs.Lookups.{actor-list}
+use Rattle.heads.specs.Heads.{head-hashes}
+use Rattle.questions.specs.Clocks.{whole-clock, clock-told, clock-filled}
+use Rattle.op_clock.specs.OpClocks.{whole-op-clock, op-clock-told, op-clock-filled}
+use Rattle.missing.specs.Missing.{missing-hashes, missing-told, missing-filled}
+use Rattle.deps.specs.Deps.{hash-deps, deps-told, deps-filled}
+use Rattle.asked.specs.Asks.{Reply, gives, refuses, numberOf, toldBy, ofListed, Asks}
+use Rattle.demands.specs.Demands.{stable, outcome-small}
+use Rattle.demands.specs.Questions.{Question, clock-of, clock-at, missing-from, owner-of, heads, head-indexes, index-to-hash, hash-for-actor-seq, deps-for-hash, actor-ids, answerOn, bufferOn, Answers}
+
+-- a refusal's number is not 0
+abbrev refusedWith : Listed → Type 0
+refusedWith l = numberOf (ofListed l) ≡ 0 → ⊥
+
+list-kept : (l out : List ℕ) → refusedWith (listed l (length out)) → filled l out ≡ out
+unfolding listed filled
+list-kept l out = go (leb (length l) (length out))
+  where
+    go : (b : Bool) → refusedWith (cond b (Done (length l)) Short) → cond b (l ++ drop (length l) out) out ≡ out
+    go true n = absurd (n refl)
+    go false n = refl
+
+-- behind a test
+either-kept : (b : Bool) (a c : Listed) (x out : List ℕ) → (refusedWith a → x ≡ out) → refusedWith (cond b a c) → cond b x out ≡ out
+either-kept true a c x out k n = k n
+either-kept false a c x out k n = refl
+
+-- the table itself is shown, or the list goes into the buffer
+table-kept : (b : Bool) (n : ℕ) (l out : List ℕ) → refusedWith (cond b (Done n) (listed l (length out))) → cond b out (filled l out) ≡ out
+table-kept true n l out z = refl
+table-kept false n l out z = list-kept l out z
+
+node-kept : (g : Graph) (k : ℕ) (c : Listed) (out : List ℕ) → refusedWith (node-hash g k c (length out)) → node-hash-filled g k out ≡ out
+unfolding node-hash node-hash-filled
+node-kept g k c out = either-kept (ltb k (g .size)) (listed (g .hash k) (length out)) c (filled (g .hash k) out) out (list-kept (g .hash k) out)
+
+kept : (q : Question) (t : Tables) (out : List ℕ) → refusedWith (answerOn q (length out) t) → bufferOn q out t ≡ out
+unfolding clock-told clock-filled op-clock-told op-clock-filled missing-told missing-filled deps-told deps-filled
+kept (clock-of l) t out = either-kept (whole-list l) (listed (whole-clock t l) (length out)) Malformed (filled (whole-clock t l) out) out (list-kept (whole-clock t l) out)
+kept (clock-at l) t out = either-kept (whole-list l) (listed (whole-op-clock t l) (length out)) Malformed (filled (whole-op-clock t l) out) out (list-kept (whole-op-clock t l) out)
+kept (missing-from have) t out =
+    let l = missing-hashes (graph t) have in
+    let all = Done (32 * graph t .size) in
+    let none = eqb (length have) 0 in
+    either-kept (whole-list have) (cond none all (listed l (length out))) Malformed (cond none out (filled l out)) out (table-kept none (32 * graph t .size) l out)
+kept (owner-of a c) t out = node-kept (graph t) (owner (graph t) a c) NoOwner out
+kept heads t out = list-kept (head-hashes (graph t)) out
+kept head-indexes t out = list-kept (head-nodes (graph t)) out
+kept (index-to-hash k) t out = node-kept (graph t) k NotFound out
+kept (hash-for-actor-seq a q) t out = node-kept (graph t) (change-at (graph t) a q) NotFound out
+kept (deps-for-hash h) t out = either-kept (one-hash h) (listed (hash-deps (graph t) h) (length out)) Malformed (filled (hash-deps (graph t) h) out) out (list-kept (hash-deps (graph t) h) out)
+kept (actor-ids w) t out = list-kept (actor-list t w) out
+
+untold : (y : Reply) (told : List ℕ) → (numberOf y ≡ 0 → ⊥) → toldBy y told ≡ told
+untold (gives n) told z = absurd (z refl)
+untold (refuses o) told z = refl
+
+module _ (q : Question) (out told : List ℕ) (r : ℕ) (out′ told′ : List ℕ) (t : Tables) (p : Answers q out told r out′ told′ t) where
+  -- whether the tables are valid or not
+  not-changed : (r ≡ 0 → ⊥) → ((out′ ≡ out) × (told′ ≡ told) → ⊥) → ⊥
+  not-changed n d =
+      let invalid : Valid t → ⊥ = λ v. (let s = p .met v in let m : refusedWith (answerOn q (length out) t) = λ z. n (s .number ∙ z) in d (s .filled ∙ kept q t out m, s .places ∙ untold (ofListed (answerOn q (length out) t)) told m)) in
+      let u = p .unmet invalid in
+      d (u .1, u .2)
+
+  pub question-keeps : (r ≡ 0 → ⊥) → (out′ ≡ out) × (told′ ≡ told)
+  question-keeps n =
+      (stable out′ out (λ d. not-changed n (λ e. d (e .0))), stable told′ told (λ d. not-changed n (λ e. d (e .1))))
+
+  pub question-numbered : r ≤ 18
+  question-numbered =
+      by-bool (leb r 18) (leb-true r 18)
+      (λ f.
+      let large = leb-false r 18 f in
+      let invalid : Valid t → ⊥ = λ v. (let b = listed-small (answerOn q (length out) t) in omega (arith, p .met v .number)) in
+      let u = p .unmet invalid in
+      absurd (omega (arith, u .0)))
+    where
+      listed-small : (l : Listed) → numberOf (ofListed l) ≤ 18
+      listed-small (Done n) = omega arith
+      listed-small Malformed = omega arith
+      listed-small NotFound = omega arith
+      listed-small NoOwner = omega arith
+      listed-small Short = omega arith
