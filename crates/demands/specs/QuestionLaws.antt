@@ -9,14 +9,14 @@ use lib.Dec.{leb, ltb, eqb}
 use lib.ListN.{length, drop}
 use borrow.Author.Tests.{leb-true, leb-false}
 use Rattle.paper.proofs.Bools.{by-bool}
-use Rattle.paper.specs.Graph.{Graph, head-nodes, change-at, owner}
+use Rattle.paper.specs.Graph.{Graph, change-at, owner}
 use Rattle.tables.specs.Tables.{Tables, graph}
 use Rattle.tables.specs.Valid.{Valid}
 use Rattle.answers.specs.Answers.{listed, filled, whole-list, one-hash, node-hash, node-hash-filled}
 use Rattle.answers.specs.declared.Listed.{Listed}
 use Rattle.answers.specs.declared.Listed.the-variants.{Done, Malformed, NotFound, NoOwner, Short}
 use Rattle.lookups.specs.Lookups.{actor-list}
-use Rattle.heads.specs.Heads.{head-hashes}
+use Rattle.heads.specs.Heads.{head-hashes, head-places}
 use Rattle.questions.specs.Clocks.{whole-clock, clock-told, clock-filled}
 use Rattle.op_clock.specs.OpClocks.{whole-op-clock, op-clock-told, op-clock-filled}
 use Rattle.missing.specs.Missing.{missing-hashes, missing-told, missing-filled}
@@ -62,7 +62,7 @@ kept (missing-from have) t out =
     either-kept (whole-list have) (cond none all (listed l (length out))) Malformed (cond none out (filled l out)) out (table-kept none (32 * graph t .size) l out)
 kept (owner-of a c) t out = node-kept (graph t) (owner (graph t) a c) NoOwner out
 kept heads t out = list-kept (head-hashes (graph t)) out
-kept head-indexes t out = list-kept (head-nodes (graph t)) out
+kept head-indexes t out = list-kept (head-places (graph t)) out
 kept (index-to-hash k) t out = node-kept (graph t) k NotFound out
 kept (hash-for-actor-seq a q) t out = node-kept (graph t) (change-at (graph t) a q) NotFound out
 kept (deps-for-hash h) t out = either-kept (one-hash h) (listed (hash-deps (graph t) h) (length out)) Malformed (filled (hash-deps (graph t) h) out) out (list-kept (hash-deps (graph t) h) out)

@@ -3,14 +3,14 @@
 use mathlib.Core.List.{List}
 use Prim.Native.Nat.{ℕ}
 use lib.ListN.{length}
-use Rattle.paper.specs.Graph.{head-nodes, change-at, owner}
+use Rattle.paper.specs.Graph.{change-at, owner}
 use Rattle.tables.specs.Tables.{Tables, graph}
 use Rattle.answers.specs.Answers.{listed, filled, node-hash, node-hash-filled}
 use Rattle.answers.specs.declared.Listed.{Listed}
 use Rattle.answers.specs.declared.Listed.the-variants.{NotFound, NoOwner}
 use Rattle.lookups.specs.Lookups.{actor-list}
 use Rattle.lookups.specs.declared.Which.{Which}
-use Rattle.heads.specs.Heads.{head-hashes}
+use Rattle.heads.specs.Heads.{head-hashes, head-places}
 use Rattle.questions.specs.Clocks.{clock-told, clock-filled}
 use Rattle.op_clock.specs.OpClocks.{op-clock-told, op-clock-filled}
 use Rattle.missing.specs.Missing.{missing-told, missing-filled}
@@ -36,7 +36,7 @@ answerOn (clock-at l) room t = op-clock-told t l room
 answerOn (missing-from have) room t = missing-told (graph t) have room
 answerOn (owner-of a c) room t = node-hash (graph t) (owner (graph t) a c) NoOwner room
 answerOn heads room t = listed (head-hashes (graph t)) room
-answerOn head-indexes room t = listed (head-nodes (graph t)) room
+answerOn head-indexes room t = listed (head-places (graph t)) room
 answerOn (index-to-hash k) room t = node-hash (graph t) k NotFound room
 answerOn (hash-for-actor-seq a q) room t = node-hash (graph t) (change-at (graph t) a q) NotFound room
 answerOn (deps-for-hash h) room t = deps-told (graph t) h room
@@ -49,7 +49,7 @@ bufferOn (clock-at l) out t = op-clock-filled t l out
 bufferOn (missing-from have) out t = missing-filled (graph t) have out
 bufferOn (owner-of a c) out t = node-hash-filled (graph t) (owner (graph t) a c) out
 bufferOn heads out t = filled (head-hashes (graph t)) out
-bufferOn head-indexes out t = filled (head-nodes (graph t)) out
+bufferOn head-indexes out t = filled (head-places (graph t)) out
 bufferOn (index-to-hash k) out t = node-hash-filled (graph t) k out
 bufferOn (hash-for-actor-seq a q) out t = node-hash-filled (graph t) (change-at (graph t) a q) out
 bufferOn (deps-for-hash h) out t = deps-filled (graph t) h out

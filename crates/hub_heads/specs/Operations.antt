@@ -3,10 +3,9 @@
 use mathlib.Core.List.{List}
 use Prim.Native.Nat.{ℕ}
 use lib.ListN.{length}
-use Rattle.paper.specs.Graph.{head-nodes}
+use Rattle.heads.specs.Heads.{head-hashes, head-places}
 use Rattle.tables.specs.Tables.{Tables, graph}
 use Rattle.answers.specs.Answers.{listed, filled}
-use Rattle.heads.specs.Heads.{head-hashes}
 use Rattle.asked.specs.Asks.{ofListed, Asks}
 
 -- asking the tables t for the heads' hashes answers r and leaves out′ and told′
@@ -15,4 +14,4 @@ HeadsOf out told r out′ told′ t = Asks ofListed (λ t. listed (head-hashes (
 
 -- asking for the heads' nodes
 abbrev pub HeadIndexes : List ℕ → List ℕ → ℕ → List ℕ → List ℕ → Tables → Type 0
-HeadIndexes out told r out′ told′ t = Asks ofListed (λ t. listed (head-nodes (graph t)) (length out)) (λ t. filled (head-nodes (graph t)) out) out told r out′ told′ t
+HeadIndexes out told r out′ told′ t = Asks ofListed (λ t. listed (head-places (graph t)) (length out)) (λ t. filled (head-places (graph t)) out) out told r out′ told′ t
