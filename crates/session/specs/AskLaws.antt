@@ -12,7 +12,7 @@ use borrow.Author.Tests.{le-leb, lt-leb, leb-true, leb-false}
 use Rattle.paper.specs.Adding.{Hub}
 use Rattle.paper.specs.Command.{Command, heads, clock, missing, owner, add, bad, commandOf}
 use Rattle.paper.specs.Session.{Phase, asking, ended, Told, badText, badLine, answer, after, asked, shortLine, longLine, lineStep, ending, answers}
-use Rattle.paper.proofs.Same.{SameHub}
+use Rattle.paper.proofs.Same.{SameHub, hub-trans}
 use Rattle.laws.specs.Over.{over, over-none, over-over}
 use Rattle.text.specs.Parts.{part, partsFrom}
 use Rattle.text.specs.Answers.{lineAt}
@@ -26,11 +26,11 @@ use Rattle.print.specs.Print.{putAnswer}
 use Rattle.print.specs.declared.Put.{Put}
 use Rattle.print.specs.declared.Put.the-variants.{Next, Full}
 use Rattle.reply.specs.Said.{Said}
-use Rattle.step.specs.Step.{tablesAfter, Bench}
+use Rattle.step.specs.Step.{tablesAfter, Bench, good}
 use Rattle.step.specs.StepLaws.{after-hub, after-valid, after-bench}
 use Rattle.session.specs.LineLaws.{line-end, line-long, line-open, line-length, line-bounds, line-whole}
 use Rattle.session.specs.BeginLaws.{ended-answers}
-use Rattle.session.specs.SameLaws.{sym-hub, trans-hub, answer-same, after-same}
+use Rattle.session.specs.SameLaws.{sym-hub, answer-same, after-same}
 use Rattle.session.specs.Ask.{Asking}
 
 -- ---- what a put's answer says
@@ -56,15 +56,6 @@ unfolding putAnswer
 same-put bs cs at bt room e = ap (λ (m : ℕ). cond (leb m room) (Next m) Full) e
 
 -- ---- a line that asks
-
--- a command that is not bad
-abbrev pub good : Command → Bool
-good heads = true
-good (clock hs) = true
-good (missing hs) = true
-good (owner a c) = true
-good (add h a s m k ds) = true
-good bad = false
 
 asked-good : (n : ℕ) (u : Hub) (x : Command) → good x ≡ true → asked n u x ≡ record { phase = asking (after u x); said = answer u x }
 unfolding asked
@@ -173,7 +164,7 @@ module _ (s text out₀ : List ℕ) (t : Tables) (n at cur : ℕ) (out : List �
           subst (λ (t₂ : Tables). Asking s text out₀ t₂ (n + 1) p (c .at) out₁) (sym h)
           (record {
             here = after (k .here) x;
-            same = trans-hub (hub (tablesAfter t x)) (after (hub t) x) (after (k .here) x) (sym-hub (after (hub t) x) (hub (tablesAfter t x)) (after-hub t (k .valid) x)) (after-same (hub t) (k .here) (k .same) x);
+            same = hub-trans (sym-hub (after (hub t) x) (hub (tablesAfter t x)) (after-hub t (k .valid) x)) (after-same (hub t) (k .here) (k .same) x);
             valid = after-valid t (k .valid) x;
             room = after-bench t (k .valid) x (k .room);
             done = k .done ++ answer (hub t) x;

@@ -20,11 +20,14 @@ use Rattle.text.specs.PartsLaws.{parts-start, part-length, same-lengths}
 use Rattle.text.specs.Answers.{lineAt}
 use Rattle.text.specs.declared.Cursor.{Cursor}
 use Rattle.text.specs.declared.Next.the-variants.{Whole, Unended, TooLong, End}
+use Rattle.print.specs.declared.Put.{Put}
+use Rattle.reply.specs.Said.{Said}
 use Rattle.command.specs.Answers.{actorsAnswer}
 use Rattle.command.specs.declared.Actors.the-variants.{Count, NotActors}
 use Rattle.session.specs.Begin.{Inside, Opened, Begun}
 use Rattle.session.specs.LineLaws.{line-is, line-end, line-long, line-open, line-length, line-bounds, line-whole}
 use Rattle.session.specs.declared.Begin.{Begin}
+use Rattle.session.specs.declared.Begin.the-variants.{Opens, Bad}
 
 -- after a bad line nothing follows
 ended-line : (n : ℕ) (l : List ℕ) → lineStep ended n l ≡ record { phase = ended; said = [] }
@@ -169,3 +172,18 @@ module _ (s : List ℕ) where
       → Begun (lineStep first 1 (part s b f) .said ++ answers (lineStep first 1 (part s b f) .phase) 2 (partsFrom 10 s (d .at))) s r
       → Begun (session s) s r
   begin-line b f d q r t = subst (λ (x : List ℕ). Begun x s r) (sym (start ∙ line-whole first 1 s 0 b f d q)) t
+
+-- ---- what reading them says, by its answer
+
+module _ (text s : List ℕ) (r : Begin) (b : Begun text s r) where
+  pub begun-opens : (n : ℕ) (c : Cursor) → r ≡ Opens n c → Opened text s n c
+  begun-opens n c e = subst (Begun text s) e b
+
+  module _ (p : Put) (out₀ out₁ : List ℕ) where
+    -- the lines that ask were answered
+    pub begun-asked : (n : ℕ) (c : Cursor) → r ≡ Opens n c → Said (answers (asking (bench n)) 3 (partsFrom 10 s (c .at))) 0 p out₀ out₁ → Said text 0 p out₀ out₁
+    begun-asked n c e = subst (λ (x : List ℕ). Said x 0 p out₀ out₁) (sym (begun-opens n c e .is))
+
+    -- the bad line was named
+    pub begun-bad : (k : ℕ) → r ≡ Bad k → Said (badText k) 0 p out₀ out₁ → Said text 0 p out₀ out₁
+    begun-bad k e = let q : text ≡ badText k = subst (Begun text s) e b in subst (λ (x : List ℕ). Said x 0 p out₀ out₁) (sym q)

@@ -11,9 +11,11 @@ use borrow.Author.Tests.{le-leb, lt-leb}
 use Rattle.paper.specs.Session.{numberIn, lengthIn, bufferIn}
 use Rattle.laws.specs.Over.{over}
 use Rattle.print.specs.Print.{putAnswer}
+use Rattle.print.specs.declared.Put.{Put}
 use Rattle.print.specs.declared.Put.the-variants.{Next, Full}
 use Rattle.reply.specs.Said.{Said}
 use Rattle.session.specs.AskLaws.{put-next, put-full}
+use Rattle.session.specs.Final.{fitted, sizeOf}
 
 module _ (text out₀ out₁ : List ℕ) where
   module _ (n : ℕ) (w : Said text 0 (Next n) out₀ out₁) where
@@ -48,3 +50,16 @@ module _ (text out₀ out₁ : List ℕ) where
     pub full-buffer : replicate (length out₁) 0 ≡ bufferIn text out₀
     unfolding bufferIn
     full-buffer = rw (lt-leb (length text) (length out₀) long, w .size)
+
+-- ---- the number, the length and the buffer, by whether it fitted
+
+module _ (text out₀ out₁ : List ℕ) where
+  pub final-done : (r : Put) (n : ℕ) → Said text 0 r out₀ out₁ → n ≡ sizeOf r → true ≡ fitted r
+      → (0 ≡ numberIn text (length out₀)) × ((n ≡ lengthIn text (length out₀)) × (out₁ ≡ bufferIn text out₀))
+  final-done (Next m) n w e f = (done-number text out₀ out₁ m w, (e ∙ done-length text out₀ out₁ m w, done-buffer text out₀ out₁ m w))
+  final-done Full n w e f = let z : _≡_ {A = ℕ} 0 1 = cc in absurd (omega arith)
+
+  pub final-full : (r : Put) (n : ℕ) → Said text 0 r out₀ out₁ → n ≡ sizeOf r → false ≡ fitted r → (out₂ : List ℕ) → out₂ ≡ replicate (length out₁) 0
+      → (15 ≡ numberIn text (length out₀)) × ((n ≡ lengthIn text (length out₀)) × (out₂ ≡ bufferIn text out₀))
+  final-full (Next m) n w e f out₂ z = let q : _≡_ {A = ℕ} 0 1 = cc in absurd (omega arith)
+  final-full Full n w e f out₂ z = (full-number text out₀ out₁ w, (e ∙ full-length text out₀ out₁ w, z ∙ full-buffer text out₀ out₁ w))

@@ -4,4 +4,7 @@ pub mod BeginLaws
 pub mod SameLaws
 pub mod Ask
 pub mod AskLaws
+pub mod Final
 pub mod FinalLaws
+pub mod TurnLaws
+pub mod EmptyLaws

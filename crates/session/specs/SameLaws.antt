@@ -35,37 +35,8 @@ sym-graph g g′ e =
       sizes = sym n;
     }
 
-pub trans-graph : (g h i : Graph) → SameGraph g h → SameGraph h i → SameGraph g i
-trans-graph g h i d e =
-    let n = d .sizes in
-    let m = e .sizes in
-    let x = d .extends in
-    let y = e .extends in
-    record {
-      extends =
-          record {
-            longer = omega arith;
-            hashes = λ k l. y .hashes k (omega arith) ∙ x .hashes k l;
-            max-ops = λ k l. y .max-ops k (omega arith) ∙ x .max-ops k l;
-            op-counts = λ k l. y .op-counts k (omega arith) ∙ x .op-counts k l;
-            actors = λ k l. y .actors k (omega arith) ∙ x .actors k l;
-            seqs = λ k l. y .seqs k (omega arith) ∙ x .seqs k l;
-            depss = λ k l. y .depss k (omega arith) ∙ x .depss k l;
-          };
-      sizes = m ∙ n;
-    }
-
 pub sym-hub : (u v : Hub) → SameHub u v → SameHub v u
 sym-hub u v e = record { graphs = sym-graph (u .graph) (v .graph) (e .graphs); actors = sym (e .actors); change-rooms = sym (e .change-rooms); edge-rooms = sym (e .edge-rooms) }
-
-pub trans-hub : (u v w : Hub) → SameHub u v → SameHub v w → SameHub u w
-trans-hub u v w d e =
-    record {
-      graphs = trans-graph (u .graph) (v .graph) (w .graph) (d .graphs) (e .graphs);
-      actors = e .actors ∙ d .actors;
-      change-rooms = e .change-rooms ∙ d .change-rooms;
-      edge-rooms = e .edge-rooms ∙ d .edge-rooms;
-    }
 
 -- ---- lists over the nodes
 
