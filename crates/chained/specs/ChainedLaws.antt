@@ -2,17 +2,17 @@
 -- Assumes nothing.
 use mathlib.Core.Path.{_≡_, refl, sym, ap, _∙_}
 use mathlib.Core.Logic.{_↔_, ⊎-elim}
-use mathlib.Core.Bool.{Bool, true, false, cond, _&&_, _||_}
+use mathlib.Core.Bool.{Bool, true, false, _&&_, _||_}
 use mathlib.Core.List.{List, [], _∷_}
-use Prim.Native.Nat.{ℕ, zero, suc, _+_, _-_, _≤_, _<_}
+use Prim.Native.Nat.{ℕ, suc, _+_, _-_, _≤_, _<_}
 use native.Mathlib.Numerals.{add-one}
 use native.Mathlib.Omega.{arith}
 use lib.Dec.{eqb, leb}
 use lib.ListN.{length, getD}
-use borrow.Author.Tests.{eqb-true, eq-eqb}
+use borrow.Author.Tests.{eqb-true, eq-eqb, ne-eqb, le-leb, lt-leb}
 use Rattle.paper.specs.Lists.{mem, some-below, all-below}
-use Rattle.paper.specs.Graph.{Graph, ChainedOld, chained-old-test}
-use Rattle.paper.proofs.Bools.{by-bool, not-both, same-bool, or-cases, or-left, or-right, and-both, and-fst, and-snd, some-of, of-some, mem-nil, mem-cons}
+use Rattle.paper.specs.Graph.{ChainedOld, chained-old-test}
+use Rattle.paper.proofs.Bools.{not-both, same-bool, or-cases, or-left, or-right, and-both, and-fst, and-snd, some-of, of-some, mem-nil, mem-cons}
 use Rattle.paper.proofs.Scans.{all-ext}
 use Rattle.paper.proofs.Tests.{chained-old-iff}
 use Rattle.tables.specs.Tables.{Tables, changes, actorAt, seqAt, firstAt, along, graph}
@@ -109,17 +109,18 @@ module _ (t : Tables) (v : Valid t) where
   pub chained-says : (chained (graph t) ≡ true) ↔ ChainedOld (graph t)
   chained-says = chained-old-iff (graph t) (valid-graph t (v .sound))
 
--- ---- two tests, one after the other
+-- ---- the tests of one node, from their conditions
 
-pub and-stop : (a b : Bool) → a ≡ false → false ≡ (a && b)
-and-stop a b e = rw e
+module _ (ns : List ℕ) (k : ℕ) where
+  pub other-actor : (j : ℕ) → (actorAt ns j ≡ actorAt ns k → ⊥) → false ≡ precedes ns k j
+  other-actor j n = rw (ne-eqb (actorAt ns j) (actorAt ns k) n)
 
--- the same actor: the sequences decide
-pub by-sequence : (ns : List ℕ) (j k : ℕ) → actorAt ns j ≡ actorAt ns k → eqb (seqAt ns k) (seqAt ns j + 1) ≡ precedes ns k j
-by-sequence ns j k e = rw (eq-eqb (actorAt ns j) (actorAt ns k) e, add-one (seqAt ns j))
+  pub same-actor : (j : ℕ) → actorAt ns j ≡ actorAt ns k → eqb (seqAt ns k) (seqAt ns j + 1) ≡ precedes ns k j
+  same-actor j e = rw (eq-eqb (actorAt ns j) (actorAt ns k) e, add-one (seqAt ns j))
 
-pub or-stop : (a b : Bool) → a ≡ true → true ≡ (a || b)
-or-stop a b e = rw e
+  module _ (ts xs : List ℕ) where
+    pub first-linked : seqAt ns k ≤ 1 → true ≡ linked ns ts xs k
+    first-linked l = rw (le-leb (seqAt ns k) 1 l)
 
-pub or-on : (a b r : Bool) → a ≡ false → r ≡ b → r ≡ (a || b)
-or-on a b r e q = rw e q
+    pub later-linked : 1 < seqAt ns k → some-in (precedes ns k) (along ts xs (firstAt ns k)) ≡ linked ns ts xs k
+    later-linked l = rw (lt-leb (seqAt ns k) 1 l)

@@ -1,7 +1,6 @@
 // Whether a graph in valid tables is chained: one pass over the nodes and their edges. Nothing is changed.
 ghost use mathlib.Core.Path.{_≡_};
-ghost use mathlib.Core.Bool.{Bool};
-ghost use Prim.Native.Nat.{ℕ, _+_, _*_, _≤_, _<_};
+ghost use Prim.Native.Nat.{_+_, _*_, _≤_, _<_};
 ghost use lib.ListN.{length};
 ghost use Rattle.tables.specs.Tables.{tables, graph, along, firstAt};
 ghost use Rattle.tables.specs.Valid.{Valid};

@@ -1,9 +1,9 @@
 -- An ascending list is told by what it names: lists that name the same hashes have the same ascending list, whatever their order and repeats.
 -- Assumes nothing.
-use mathlib.Core.Path.{_≡_, refl, sym, ap, ap₂, _∙_, subst}
+use mathlib.Core.Path.{_≡_, refl, sym, ap₂, _∙_, subst}
 use mathlib.Core.Logic.{_↔_, ⊎-elim}
-use mathlib.Core.Bool.{Bool, true, false, _&&_, _||_}
-use mathlib.Core.List.{List, [], _∷_, _++_}
+use mathlib.Core.Bool.{true}
+use mathlib.Core.List.{List, [], _∷_}
 use Prim.Native.Nat.{ℕ}
 use Rattle.paper.specs.Lists.{sameList, lessList, names, ascending, every}
 use Rattle.paper.specs.Loading.{same-hashes}
@@ -73,11 +73,4 @@ same-names xs ys = (
       (of-every (λ k. names k xs) ys (and-snd (every (λ k. names k ys) xs) (every (λ k. names k xs) ys) t) h)),
   (λ e.
       and-both (every (λ k. names k ys) xs) (every (λ k. names k xs) ys) (every-of (λ k. names k ys) xs (λ h n. sym (e h) ∙ n)) (every-of (λ k. names k xs) ys (λ h n. e h ∙ n))),
-)
-
--- and so that their ascending lists are one
-pub same-ascending : (xs ys : List (List ℕ)) → (same-hashes xs ys ≡ true) ↔ (ascending xs ≡ ascending ys)
-same-ascending xs ys = (
-  (λ t. ascending-same xs ys (same-names xs ys .0 t)),
-  (λ e. same-names xs ys .1 (λ h. sym (ascending-names h xs) ∙ ap (names h) e ∙ ascending-names h ys)),
 )

@@ -2,13 +2,12 @@
 -- Assumes nothing.
 use mathlib.Core.Path.{_≡_, refl, sym, ap, ap₂, _∙_}
 use mathlib.Core.Logic.{_↔_}
-use mathlib.Core.Bool.{Bool, true, false, not, cond, _&&_, _||_}
-use mathlib.Core.List.{List, [], _∷_, map}
-use Prim.Native.Nat.{ℕ, zero, suc, _/_, _%_, _<_}
-use lib.Dec.{eqb}
+use mathlib.Core.Bool.{Bool, true, false, not, _&&_, _||_}
+use mathlib.Core.List.{List, map}
+use Prim.Native.Nat.{ℕ, zero, suc, _/_, _%_}
 use lib.ListN.{length}
 use borrow.Author.Tests.{eq-eqb, ne-eqb}
-use Rattle.paper.specs.Lists.{hashAt, names, hashes-from, hashes-of, sameList, some-below, all-below, every, ascending}
+use Rattle.paper.specs.Lists.{hashAt, names, hashes-from, hashes-of, sameList, some-below, all-below, ascending}
 use Rattle.paper.specs.Graph.{Graph, heads, head-nodes, wanted}
 use Rattle.paper.specs.Loading.{same-hashes}
 use Rattle.paper.proofs.Bools.{by-bool, some-ext}
@@ -25,19 +24,20 @@ use Rattle.answers.specs.declared.Told.the-variants.{Yes, No, Malformed}
 use Rattle.current.specs.Current.{current, current-told, head-is, head-named}
 use Rattle.current.specs.Ascents.{NamesSame, same-names, ascending-same}
 
--- ---- two tests, one after the other
+-- ---- the tests of one node, from its flag
 
-pub and-stop : (a b : Bool) → a ≡ false → false ≡ (a && b)
-and-stop a b e = rw e
+module _ (hs ns : List ℕ) (k : ℕ) where
+  pub no-head : (headAt ns k ≡ 1 → ⊥) → (h : List ℕ) → false ≡ head-is hs ns h k
+  no-head n h = rw (ne-eqb (headAt ns k) 1 n)
 
-pub and-on : (a b r : Bool) → a ≡ true → r ≡ b → r ≡ (a && b)
-and-on a b r e q = rw e q
+  pub head-hash : headAt ns k ≡ 1 → (h : List ℕ) → sameList (hashAt hs k) h ≡ head-is hs ns h k
+  head-hash e h = rw (eq-eqb (headAt ns k) 1 e)
 
-pub unless-not : (a b : Bool) → a ≡ false → true ≡ (not a || b)
-unless-not a b e = rw e
+  pub none-to-name : (headAt ns k ≡ 1 → ⊥) → (bytes : List ℕ) → true ≡ head-named hs ns bytes k
+  none-to-name n bytes = rw (ne-eqb (headAt ns k) 1 n)
 
-pub unless-on : (a b r : Bool) → a ≡ true → r ≡ b → r ≡ (not a || b)
-unless-on a b r e q = rw e q
+  pub one-to-name : headAt ns k ≡ 1 → (bytes : List ℕ) → names (hashAt hs k) (hashes-of bytes) ≡ head-named hs ns bytes k
+  one-to-name e bytes = rw (eq-eqb (headAt ns k) 1 e)
 
 -- ---- a search in a list of hashes says whether it names the hash
 
@@ -73,6 +73,20 @@ module _ (t : Tables) (v : Valid t) where
       (all-ext (head-named (t .hashes) (t .nodes) bytes) (λ k. not (not (wanted (graph t) k)) || names (hashAt (t .hashes) k) (hashes-of bytes)) (changes t)
       (λ k l. ap (λ (b : Bool). not b || names (hashAt (t .hashes) k) (hashes-of bytes)) (flag-says t v k l))
       ∙ sym (every-head (graph t) (λ h. names h (hashes-of bytes))))
+
+  -- the scans' answers, one after the other
+  module _ (bytes : List ℕ) where
+    abbrev listed-right : Bool
+    listed-right = all-below (λ i. some-below (head-is (t .hashes) (t .nodes) (hashAt bytes i)) (changes t)) (length bytes / 32)
+
+    abbrev heads-named : Bool
+    heads-named = all-below (head-named (t .hashes) (t .nodes) bytes) (changes t)
+
+    pub listed-wrong : all-below (λ i. some-below (head-is (t .hashes) (t .nodes) (hashAt bytes i)) (changes t)) (length bytes / 32) ≡ false → current (graph t) bytes ≡ false
+    listed-wrong e = sym (current-is bytes) ∙ ap (λ (b : Bool). b && heads-named) e
+
+    pub heads-decide : all-below (λ i. some-below (head-is (t .hashes) (t .nodes) (hashAt bytes i)) (changes t)) (length bytes / 32) ≡ true → current (graph t) bytes ≡ all-below (head-named (t .hashes) (t .nodes) bytes) (changes t)
+    heads-decide e = sym (current-is bytes) ∙ ap (λ (b : Bool). b && heads-named) e
 
 -- ---- each answer from its condition
 

@@ -1,7 +1,6 @@
 // Whether a list of hashes names exactly the heads of a graph in valid tables, order and repeats ignored. Nothing is changed.
 ghost use mathlib.Core.Path.{_≡_};
-ghost use mathlib.Core.Bool.{Bool};
-ghost use Prim.Native.Nat.{ℕ, _+_, _*_, _/_, _≤_, _<_};
+ghost use Prim.Native.Nat.{_+_, _*_, _/_, _≤_, _<_};
 ghost use lib.ListN.{length};
 ghost use Rattle.paper.specs.Lists.{some-below, all-below, hashAt, names, hashes-of};
 ghost use Rattle.tables.specs.Tables.{tables, graph};
@@ -54,7 +53,7 @@ fn listed_are_heads(hashes: &[u8], nodes: &[u32], n: usize, list: &[u8]) -> bool
 }
 
 // Is the hash listed?
-fn is_listed(list: &[u8], hash: &[u8]) -> bool
+pub fn is_listed(list: &[u8], hash: &[u8]) -> bool
     requires { ⌜ length (now hash) ≡ 32 ⌝ }
     ensures { λ r. ⌜ r ≡ names (now (hash .entry)) (hashes-of (now (list .entry))) ⌝ }
 {

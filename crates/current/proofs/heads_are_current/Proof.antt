@@ -1,11 +1,10 @@
 -- Each listed hash is a head's, and each head's is listed; no as soon as one fails. Assumes nothing.
-use mathlib.Core.Path.{_≡_, sym, _∙_}
-use mathlib.Core.Bool.{true, false}
+use mathlib.Core.Path.{sym, _∙_}
 use denote.Ref.{now}
 use borrow.Author.Needs.{needs}
 use borrow.Author.Tests.{not-true, not-false}
 use Rattle.tables.specs.Tables.{Tables, tables, graph}
-use Rattle.current.specs.CurrentLaws.{and-stop, and-on, current-is, told-malformed, told-yes, told-no}
+use Rattle.current.specs.CurrentLaws.{listed-wrong, heads-decide, told-malformed, told-yes, told-no}
 use Rattle.current.proofs.heads_are_current.Statement.{statement}
 use Rattle.current.proofs.heads_are_current.Tie as tie
 
@@ -17,15 +16,15 @@ returns c = sym (told-malformed (graph (T (c .before .before .before .before .be
 
 returns-2 : tie.Need-returns-2
 returns-2 c = let s = c .before .before .before .before .before .before .before .before .before .before .before in
-    sym (told-no (graph (T s)) _ (c .before .before .before .if1 .left) (sym (and-stop _ _ (sym (c .before .listed-are-heads .ensures) ∙ not-true _ (c .if2 .taken)) ∙ current-is (T s) (s .pre) _)))
+    sym (told-no (graph (T s)) _ (c .before .before .before .if1 .left) (listed-wrong (T s) (s .pre) _ (sym (c .before .listed-are-heads .ensures) ∙ not-true _ (c .if2 .taken))))
 
 returns-3 : tie.Need-returns-3
 returns-3 c = let s = c .before .before .before .before .before .before .before .before .before .before .before .before .before in
-    sym (told-no (graph (T s)) _ (c .before .before .before .before .before .if1 .left) (sym (and-on _ _ false (sym (c .before .before .before .listed-are-heads .ensures) ∙ not-false _ (c .before .before .if2 .left)) (sym (not-true _ (c .if3 .taken)) ∙ c .before .heads-are-listed .ensures) ∙ current-is (T s) (s .pre) _)))
+    sym (told-no (graph (T s)) _ (c .before .before .before .before .before .if1 .left) (heads-decide (T s) (s .pre) _ (sym (c .before .before .before .listed-are-heads .ensures) ∙ not-false _ (c .before .before .if2 .left)) ∙ sym (c .before .heads-are-listed .ensures) ∙ not-true _ (c .if3 .taken)))
 
 returns-4 : tie.Need-returns-4
 returns-4 c = let s = c .before .before .before .before .before .before .before .before .before .before .before .before .before in
-    sym (told-yes (graph (T s)) _ (c .before .before .before .before .before .if1 .left) (sym (and-on _ _ true (sym (c .before .before .before .listed-are-heads .ensures) ∙ not-false _ (c .before .before .if2 .left)) (sym (not-false _ (c .if3 .left)) ∙ c .before .heads-are-listed .ensures) ∙ current-is (T s) (s .pre) _)))
+    sym (told-yes (graph (T s)) _ (c .before .before .before .before .before .if1 .left) (heads-decide (T s) (s .pre) _ (sym (c .before .before .before .listed-are-heads .ensures) ∙ not-false _ (c .before .before .if2 .left)) ∙ sym (c .before .heads-are-listed .ensures) ∙ not-false _ (c .if3 .left)))
 
 pub heads-are-current-spec : {M : Type 1} → statement M
 heads-are-current-spec =

@@ -1,6 +1,6 @@
 -- Every head is listed. The invariant: all so far; the measure is what is left of n. Assumes nothing.
 use Prim.Native.Nat.{_-_}
-use mathlib.Core.Path.{_≡_, sym, _∙_}
+use mathlib.Core.Path.{sym, _∙_}
 use borrow.Author.Needs.{needs}
 use borrow.Author.Tests.{not-true, not-false}
 use Rattle.paper.proofs.Scans.{Passed, all-start, all-next, all-end, all-no}

@@ -1,6 +1,6 @@
 -- One of the nodes is a head with the hash. The invariant: none so far; the measure is what is left of n. Assumes nothing.
 use Prim.Native.Nat.{_-_}
-use mathlib.Core.Path.{_≡_, sym, _∙_}
+use mathlib.Core.Path.{sym, _∙_}
 use borrow.Author.Needs.{needs}
 use Rattle.paper.proofs.Scans.{Missed, some-start, some-next, some-end, some-yes}
 use Rattle.current.specs.Current.{head-is}

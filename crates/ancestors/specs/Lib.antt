@@ -1,0 +1,3 @@
+pub mod Ancestors
+pub mod KeptLaws
+pub mod AncestorLaws
