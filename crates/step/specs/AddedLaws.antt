@@ -3,13 +3,12 @@
 use mathlib.Core.Path.{_≡_, refl, sym, ap, _∙_, subst}
 use mathlib.Core.List.{List, [], _∷_, _++_}
 use mathlib.Core.Bool.{Bool, true, false, cond, not, _||_}
-use Prim.Native.Nat.{ℕ, suc, _+_, _-_, _*_, _/_, _≤_, _<_}
+use Prim.Native.Nat.{ℕ, suc, _+_, _-_, _*_, _/_, _<_}
 use native.Mathlib.Omega.{arith}
 use lib.Dec.{eqb, ltb, leb}
 use lib.ListN.{length, take, drop}
 use Rattle.paper.specs.Lists.{hashAt}
 use Rattle.paper.specs.Text.{digitsOf, hexOf}
-use Rattle.paper.specs.Numbers.{number}
 use Rattle.paper.specs.Adding.{Change, Verdict, plain, unknown, judged as paper-judged}
 use Rattle.paper.specs.Command.{addWord}
 use Rattle.paper.specs.Session.{answerLine, verdictText}

@@ -1,17 +1,15 @@
 -- What each kind of line gives.
 -- Assumes nothing.
 use mathlib.Core.Path.{_≡_, refl, sym, ap, ap₂, _∙_, subst}
-use mathlib.Core.Bool.{Bool, true, _&&_}
-use mathlib.Core.List.{List, [], _∷_, _++_, append-nil}
+use mathlib.Core.Bool.{true, _&&_}
+use mathlib.Core.List.{List, [], _++_, append-nil}
 use Prim.Native.Nat.{ℕ, _*_, _-_, _%_, _≤_}
 use native.Mathlib.Omega.{arith}
 use lib.ListN.{length, take, drop, drop-of-length-le}
 use borrow.Author.Tests.{eqb-true}
-use Rattle.laws.specs.Over.{over}
 use Rattle.paper.specs.Lists.{hashes-of, every}
-use Rattle.paper.specs.Text.{flat}
 use Rattle.paper.specs.Adding.{Change, judged}
-use Rattle.paper.specs.Command.{Command, heads, clock, missing, owner, add, bad, addWord}
+use Rattle.paper.specs.Command.{Command, heads, clock, missing, owner, add, addWord}
 use Rattle.paper.specs.Session.{answerLine, verdictText, answer, changeOf}
 use Rattle.paper.proofs.Bools.{and-fst, and-snd}
 use Rattle.answers.specs.AnswerLaws.{over-front}

@@ -1,7 +1,7 @@
 -- Laws of what a `missing` line answers.
 -- Assumes nothing.
-use mathlib.Core.Path.{_≡_, refl, sym, ap, ap₂, _∙_, subst}
-use mathlib.Core.Bool.{Bool, true, false, cond}
+use mathlib.Core.Path.{_≡_, refl, sym, ap, _∙_, subst}
+use mathlib.Core.Bool.{Bool, true}
 use mathlib.Core.List.{List, [], _∷_, _++_, map}
 use Prim.Native.Nat.{ℕ, zero, suc, _+_, _*_, _/_, _%_, _≤_, _<_}
 use native.Mathlib.Omega.{arith}
@@ -9,7 +9,7 @@ use lib.Dec.{eqb}
 use lib.ListN.{length, take, drop, length-append, length-take}
 use lib.Seq.{take-at}
 use borrow.Author.Tests.{lt-ltb, eqb-true, eqb-false}
-use Rattle.paper.specs.Lists.{pick, tally, hashAt, hashes-from, hashes-of, every}
+use Rattle.paper.specs.Lists.{hashAt, hashes-from, hashes-of, every}
 use Rattle.paper.specs.Text.{flat, listText}
 use Rattle.paper.specs.Graph.{nodes, clock, above, missing as missing-of}
 use Rattle.paper.specs.Command.{missingWord, missing}
@@ -22,9 +22,8 @@ use Rattle.tables.specs.Tables.{Tables, changes, actorAt, seqAt, graph}
 use Rattle.tables.specs.Valid.{Valid, Running}
 use Rattle.tables.specs.DepsLaws.{valid-graph}
 use Rattle.judge.specs.Hub.{hub}
-use Rattle.answers.specs.Answers.{listed, filled}
 use Rattle.answers.specs.AnswerLaws.{listed-done, filled-done}
-use Rattle.answers.specs.Entering.{Wide, wide-cons, flat-long}
+use Rattle.answers.specs.Entering.{Wide, wide-cons}
 use Rattle.answers.specs.Picking.{rest-of, rest-all, hashes-length}
 use Rattle.answers.specs.Room.{room}
 use Rattle.answers.specs.SlotLaws.{flat-hashes}

@@ -1,7 +1,7 @@
 -- Laws of what an `owner` line answers.
 -- Assumes nothing.
-use mathlib.Core.Path.{_≡_, refl, sym, ap, _∙_}
-use mathlib.Core.List.{List, [], _∷_}
+use mathlib.Core.Path.{_≡_, refl, sym, _∙_}
+use mathlib.Core.List.{List}
 use mathlib.Core.Bool.{Bool, true, false, cond}
 use Prim.Native.Nat.{ℕ, _+_, _-_, _*_, _≤_, _<_}
 use native.Mathlib.Omega.{arith}
@@ -13,7 +13,6 @@ use Rattle.paper.specs.Text.{digitsOf, hexOf}
 use Rattle.paper.specs.Graph.{owner as owning}
 use Rattle.paper.specs.Command.{ownerWord, owner}
 use Rattle.paper.specs.Session.{answerLine, ownerText, answer}
-use Rattle.hash.specs.declared.Found.{Found}
 use Rattle.hash.specs.declared.Found.the-variants.{At, Unknown}
 use Rattle.tables.specs.Tables.{Tables, changes, graph}
 use Rattle.tables.specs.Valid.{Valid}

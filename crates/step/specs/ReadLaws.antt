@@ -1,19 +1,18 @@
 -- What was read of a line: the command again from the answer and the two buffers.
 -- Assumes nothing.
-use mathlib.Core.Path.{_≡_, refl, sym, ap, _∙_, subst}
-use mathlib.Core.Bool.{Bool, true}
-use mathlib.Core.List.{List, [], _∷_, _++_}
+use mathlib.Core.Path.{_≡_, refl, sym, ap, _∙_}
+use mathlib.Core.List.{List, [], _++_}
 use Prim.Native.Nat.{ℕ, _*_, _-_, _%_, _≤_}
 use native.Mathlib.Omega.{arith}
-use lib.ListN.{length, take, drop, length-append, drop-of-length-le}
+use lib.ListN.{length, take, drop, length-append}
 use lib.Seq.{take-at}
 use Rattle.laws.specs.Over.{over, over-none}
-use Rattle.paper.specs.Lists.{hashes-of, every}
+use Rattle.paper.specs.Lists.{hashes-of}
 use Rattle.paper.specs.Text.{flat}
 use Rattle.paper.specs.Command.{Command, heads, clock, missing, owner, add, bad}
 use Rattle.answers.specs.AnswerLaws.{over-front}
 use Rattle.answers.specs.Entering.{Wide, flat-long}
-use Rattle.command.specs.Answers.{lineOf, hashAfter, listAfter, Answered}
+use Rattle.command.specs.Answers.{lineOf, listAfter, Answered}
 use Rattle.command.specs.declared.Line.{Line}
 use Rattle.command.specs.declared.Line.the-variants as line
 use Rattle.step.specs.ListLaws.{whole-back}

@@ -14,7 +14,7 @@ use Rattle.paper.specs.Text.{parted, numberOf, isHash, bytesOf, hashOf, before,
 use Rattle.paper.specs.Command.{Command, heads, clock, missing, owner, add, bad, headsWord, clockWord, missingWord, ownerWord, addWord, oneList, ownerLine, addLine, byWord, commandOf}
 use Rattle.paper.proofs.Bools.{by-bool, and-both}
 use Rattle.text.specs.WordsLaws.{hash-bytes}
-use Rattle.answers.specs.Entering.{Wide, wide-cons}
+use Rattle.answers.specs.Entering.{wide-cons}
 
 -- 32 bytes
 abbrev pub full : List ℕ → Bool

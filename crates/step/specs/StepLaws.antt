@@ -1,8 +1,6 @@
 -- The tables after a line hold the graph after it, stay valid, and keep their room.
 -- Assumes nothing.
-use mathlib.Core.Path.{_≡_, refl, sym, ap, _∙_}
-use mathlib.Core.Bool.{Bool, true, false, cond}
-use Prim.Native.Nat.{ℕ, _≤_}
+use mathlib.Core.Path.{_∙_}
 use native.Mathlib.Omega.{arith}
 use Rattle.paper.specs.Adding.{Hub, Change, accepts, judged, added as paper-added}
 use Rattle.paper.specs.Command.{Command, heads, clock, missing, owner, add, bad}

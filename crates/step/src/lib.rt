@@ -1,16 +1,15 @@
 // One line of a session that asks: what it does to the tables, and its answer line.
 ghost use mathlib.Core.Path.{_≡_};
 ghost use mathlib.Core.List.{List, [], _∷_};
-ghost use Prim.Native.Nat.{_≤_};
+ghost use Prim.Native.Nat.{_%_, _≤_};
 ghost use lib.ListN.{length};
-ghost use Prim.Native.Nat.{_%_};
 ghost use Rattle.paper.specs.Lists.{hashes-of};
 ghost use Rattle.paper.specs.Adding.{judged};
 ghost use Rattle.paper.specs.Command.{addWord, heads, clock, missing, owner, commandOf};
 ghost use Rattle.paper.specs.Session.{answerLine, verdictText, answer};
 ghost use Rattle.tables.specs.Tables.{tables};
 ghost use Rattle.tables.specs.Valid.{Valid};
-ghost use Rattle.judge.specs.Judge.{change, verdict};
+ghost use Rattle.judge.specs.Judge.{change};
 ghost use Rattle.judge.specs.Hub.{hub};
 ghost use Rattle.graph.specs.Place.{added};
 ghost use Rattle.reply.specs.Said.{Said};
