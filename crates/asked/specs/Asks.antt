@@ -1,11 +1,13 @@
 -- What a public question promises: of the lent tables, its answer buffer, and the place for how much the answer takes.
 -- Assumes nothing.
 use mathlib.Core.Path.{_≡_}
-use mathlib.Core.List.{List, [], _∷_}
+use mathlib.Core.Bool.{Bool, cond}
+use mathlib.Core.List.{List, []}
 use Prim.Native.Nat.{ℕ}
 use Rattle.paper.specs.Numbers.{Outcome, number, done, malformed, not-found, no-owner, short-buffer}
 use Rattle.tables.specs.Tables.{Tables}
 use Rattle.tables.specs.Valid.{Valid}
+use Rattle.places.specs.Places.{toldIn}
 use Rattle.edges.specs.Told.{Answered}
 use Rattle.answers.specs.declared.Place.{Place}
 use Rattle.answers.specs.declared.Place.the-variants.{At, Malformed as NoPlace, NotFound as Nowhere}
@@ -26,14 +28,9 @@ abbrev pub numberOf : Reply → ℕ
 numberOf (gives n) = number done
 numberOf (refuses o) = number o
 
--- n in the first place, where there is one; the places past it stay
-abbrev pub toldIn : List ℕ → ℕ → List ℕ
-toldIn [] n = []
-toldIn (x ∷ told) n = n ∷ told
-
 -- the places afterwards: a refusal tells nothing
 abbrev pub toldBy : Reply → List ℕ → List ℕ
-toldBy (gives n) told = toldIn told n
+toldBy (gives n) told = toldIn n told
 toldBy (refuses o) told = told
 
 -- the answers of the questions as replies
@@ -53,6 +50,9 @@ abbrev pub ofTold : Told → Reply
 ofTold Yes = gives 1
 ofTold No = gives 0
 ofTold Untold = refuses malformed
+
+abbrev pub ofBool : Bool → Reply
+ofBool b = gives (cond b 1 0)
 
 -- the number r, the buffer out′ and the places told′ are those of the answer, read as a reply, and of the buffer's definition
 pub record Says {L : Type 0} (of : L → Reply) (answer : Tables → L) (buffer : Tables → List ℕ) (told : List ℕ) (r : ℕ) (out′ told′ : List ℕ) (t : Tables) : Type 0 where

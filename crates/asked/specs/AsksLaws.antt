@@ -3,15 +3,13 @@
 use mathlib.Core.Path.{_≡_, refl, ap, _∙_}
 use mathlib.Core.Bool.{Bool, true, false}
 use mathlib.Core.Logic.{_↔_}
-use mathlib.Core.List.{List, [], _∷_}
-use Prim.Native.Nat.{ℕ, _≤_, _<_}
-use native.Mathlib.Omega.{arith}
-use lib.ListN.{length, set}
+use mathlib.Core.List.{List}
+use Prim.Native.Nat.{ℕ, _<_}
 use Rattle.laws.specs.Iff.{failed}
 use Rattle.tables.specs.Tables.{Tables, edgeRoom}
 use Rattle.tables.specs.Valid.{Valid}
 use Rattle.edges.specs.Told.{Answered, valid-bounding, answered-refused}
-use Rattle.asked.specs.Asks.{Reply, numberOf, toldIn, toldBy, Says, Untouched, Asks, Tells}
+use Rattle.asked.specs.Asks.{Reply, numberOf, toldBy, Says, Untouched, Asks}
 
 module _ {L : Type 0} (of : L → Reply) (answer : Tables → L) (buffer : Tables → List ℕ) (out told : List ℕ) (t : Tables) where
   -- more edges than the core has room for: 1 is right
@@ -28,12 +26,3 @@ module _ {L : Type 0} (of : L → Reply) (answer : Tables → L) (buffer : Table
     met = λ _. record { number = n ∙ ap (λ (l : L). numberOf (of l)) e; filled = o; places = d ∙ ap (λ (l : L). toldBy (of l) told) e };
     unmet = λ w. absurd (w v);
   }
-
--- how the one place is written
-pub told-first : (l : List ℕ) (n : ℕ) → 0 < length l → set l 0 n ≡ toldIn l n
-told-first [] n i = absurd (omega arith)
-told-first (x ∷ l) n i = refl
-
-pub told-nowhere : (l : List ℕ) (n : ℕ) → length l ≤ 0 → l ≡ toldIn l n
-told-nowhere [] n i = refl
-told-nowhere (x ∷ l) n i = absurd (omega arith)

@@ -1,18 +1,9 @@
 // The answers of public questions: the paper's number of an answer, and how much it takes, told to the caller in a lent place.
 ghost use mathlib.Core.Path.{_≡_};
-ghost use Rattle.asked.specs.Asks.{numberOf, toldIn, toldBy, ofListed, ofPlace, ofTold, gives};
+ghost use Rattle.asked.specs.Asks.{numberOf, toldBy, ofListed, ofPlace, ofTold, ofBool, gives};
 use answers::Listed;
 use answers::Place;
 use answers::Told;
-
-// Puts n into the first place, where there is one.
-pub fn tell(told: &mut [u64], n: u64)
-    ensures { λ _. ⌜ now (told .exit) ≡ toldIn (now (told .entry)) n ⌝ }
-{
-    if 0 < told.len() {
-        told[0] = n;
-    }
-}
 
 // The answer of a question with a buffer.
 pub fn listed(l: Listed, told: &mut [u64]) -> u32
@@ -21,7 +12,7 @@ pub fn listed(l: Listed, told: &mut [u64]) -> u32
 {
     match l {
         Listed::Done(n) => {
-            tell(told, n as u64);
+            places::tell(told, n as u64);
             0
         }
         Listed::Malformed => 2,
@@ -38,7 +29,7 @@ pub fn place(p: Place, told: &mut [u64]) -> u32
 {
     match p {
         Place::At(k) => {
-            tell(told, k as u64);
+            places::tell(told, k as u64);
             0
         }
         Place::Malformed => 2,
@@ -53,15 +44,28 @@ pub fn yes_no(t: Told, told: &mut [u64]) -> u32
 {
     match t {
         Told::Yes => {
-            tell(told, 1);
+            places::tell(told, 1);
             0
         }
         Told::No => {
-            tell(told, 0);
+            places::tell(told, 0);
             0
         }
         Told::Malformed => 2,
     }
+}
+
+// The answer of a question for yes or no that is never refused.
+pub fn yes(b: bool, told: &mut [u64]) -> u32
+    ensures { λ r. ⌜ r ≡ numberOf (ofBool b) ⌝ }
+    ensures { λ _. ⌜ now (told .exit) ≡ toldBy (ofBool b) (now (told .entry)) ⌝ }
+{
+    if b {
+        places::tell(told, 1);
+        return 0;
+    }
+    places::tell(told, 0);
+    0
 }
 
 // The answer of a question for a number, which is never refused.
@@ -69,7 +73,7 @@ pub fn count(n: u32, told: &mut [u64]) -> u32
     ensures { λ r. ⌜ r ≡ numberOf (gives n) ⌝ }
     ensures { λ _. ⌜ now (told .exit) ≡ toldBy (gives n) (now (told .entry)) ⌝ }
 {
-    tell(told, n as u64);
+    places::tell(told, n as u64);
     0
 }
 
@@ -78,6 +82,6 @@ pub fn size(n: usize, told: &mut [u64]) -> u32
     ensures { λ r. ⌜ r ≡ numberOf (gives n) ⌝ }
     ensures { λ _. ⌜ now (told .exit) ≡ toldBy (gives n) (now (told .entry)) ⌝ }
 {
-    tell(told, n as u64);
+    places::tell(told, n as u64);
     0
 }
