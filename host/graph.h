@@ -35,10 +35,13 @@ static inline uint32_t open_graph(Graph *g, uint64_t actors) {
   return cg_open(g->hashes, 32 * g->changes, g->nodes, 6 * g->changes, g->edges, g->edge_room, g->clocks, g->changes * g->actors, g->counts, 3, actors);
 }
 
+/* No place for the unknown dependency: a pointer that is valid, and the length 0. */
+static uint64_t no_place[1];
+
 static inline uint32_t add_bytes(Graph *g, const uint8_t *hash, size_t hash_len, uint64_t actor, uint64_t sequence, uint64_t max_op, uint64_t op_count,
                                  const uint8_t *dependencies, size_t dependencies_len) {
   return cg_add(g->hashes, 32 * g->changes, g->nodes, 6 * g->changes, g->edges, g->edge_room, g->clocks, g->changes * g->actors, g->counts, 3, hash, hash_len,
-                actor, sequence, max_op, op_count, dependencies, dependencies_len);
+                actor, sequence, max_op, op_count, dependencies, dependencies_len, no_place, 0);
 }
 
 /* Adds the change of a number on those of other numbers. */

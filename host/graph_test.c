@@ -78,6 +78,28 @@ static void refusals(void) {
   free(before);
 }
 
+/* The place for the unknown dependency: its position with 4, and with every other number it stays. */
+static void unknown(void) {
+  Graph g = worked();
+  uint8_t hash[32], dependencies[3 * 32];
+  hash_of(5, hash);
+  hash_of(1, dependencies);
+  hash_of(2, dependencies + 32);
+  hash_of(9, dependencies + 64);
+#define ADD(n, place, places) \
+  cg_add(g.hashes, 32 * g.changes, g.nodes, 6 * g.changes, g.edges, g.edge_room, g.clocks, g.changes *g.actors, g.counts, 3, hash, 32, 0, 3, 6, 1, dependencies, n, place, places)
+  uint64_t *place = guarded(16, 0xDD);
+  expect(ADD(96, place, 2) == CG_UNKNOWN_DEPENDENCY && place[0] == 2 && place[1] == 0xDDDDDDDDDDDDDDDDu, "the third dependency is unknown");
+  hash_of(8, dependencies);
+  expect(ADD(96, place + 1, 1) == CG_UNKNOWN_DEPENDENCY && place[1] == 0, "the first one of two unknown ones");
+  expect(ADD(96, place + 2, 0) == CG_UNKNOWN_DEPENDENCY, "no place");
+  hash_of(1, dependencies);
+  place[0] = 77;
+  expect(ADD(65, place, 1) == CG_MALFORMED && place[0] == 77, "another refusal leaves the place");
+  expect(ADD(64, place, 1) == CG_DONE && place[0] == 77, "an added change leaves the place");
+  unguard(place, 16);
+}
+
 static void actors(void) {
   Graph g = worked();
   size_t size;
@@ -160,7 +182,7 @@ static void lengths(void) {
       memcpy(hashes, g.hashes, n[0] < right[0] ? n[0] : right[0]);
       memcpy(nodes, g.nodes, 4 * (n[1] < right[1] ? n[1] : right[1]));
       memcpy(counts, g.counts, 4 * (n[4] < right[4] ? n[4] : right[4]));
-      expect(cg_add(hashes, n[0], nodes, n[1], g.edges, n[2], clocks, n[3], counts, n[4], hash, 32, 0, 3, 9, 1, hash, 0) == CG_NOT_VALID, "a length that disagrees");
+      expect(cg_add(hashes, n[0], nodes, n[1], g.edges, n[2], clocks, n[3], counts, n[4], hash, 32, 0, 3, 9, 1, hash, 0, no_place, 0) == CG_NOT_VALID, "a length that disagrees");
       expect(cg_open(hashes, n[0], nodes, n[1], g.edges, n[2], clocks, n[3], counts, n[4], 1) == CG_NOT_VALID, "opened with a length that disagrees");
       unguard(hashes, n[0]);
       unguard(nodes, 4 * n[1]);
@@ -208,6 +230,7 @@ static void clocks(void) {
 
 int main(void) {
   refusals();
+  unknown();
   actors();
   damaged();
   lengths();

@@ -82,8 +82,13 @@ static uint32_t max_op(const Lent *t, void *out, size_t n, uint64_t *told, size_
 static uint32_t len(const Lent *t, void *out, size_t n, uint64_t *told, size_t m) { (void)out; (void)n; return cg_len(TABLES(t), told, m); }
 static uint32_t num_actors(const Lent *t, void *out, size_t n, uint64_t *told, size_t m) { (void)out; (void)n; return cg_num_actors(TABLES(t), told, m); }
 
-static const uint32_t ones[2] = {1, 1}, one_two[2] = {1, 2}, zero_one[2] = {0, 1};
+static uint32_t clock_at(const Lent *t, void *out, size_t n, uint64_t *told, size_t m) { return cg_clock_at(TABLES(t), h2, 32, out, n, told, m); }
+static uint32_t deps_for_hash(const Lent *t, void *out, size_t n, uint64_t *told, size_t m) { return cg_deps_for_hash(TABLES(t), h3, 32, out, n, told, m); }
 static uint8_t both_heads[64];
+static uint32_t heads_are_current(const Lent *t, void *out, size_t n, uint64_t *told, size_t m) { (void)out; (void)n; return cg_heads_are_current(TABLES(t), both_heads, 64, told, m); }
+static uint32_t chained(const Lent *t, void *out, size_t n, uint64_t *told, size_t m) { (void)out; (void)n; return cg_chained(TABLES(t), told, m); }
+
+static const uint32_t three_five[2] = {3, 5}, ones[2] = {1, 1}, one_two[2] = {1, 2}, zero_one[2] = {0, 1};
 
 typedef struct Question {
   const char *name;
@@ -109,6 +114,10 @@ static const Question questions[] = {
     {"max_op", max_op, 0, NULL, 5},
     {"len", len, 0, NULL, 3},
     {"num_actors", num_actors, 0, NULL, 2},
+    {"clock_at", clock_at, 4, three_five, 2},
+    {"deps_for_hash", deps_for_hash, 1, h1, 32},
+    {"heads_are_current", heads_are_current, 0, NULL, 1},
+    {"chained", chained, 0, NULL, 1},
 };
 enum { QUESTIONS = sizeof questions / sizeof questions[0] };
 
@@ -260,6 +269,11 @@ static void own_refusals(void) {
     expect(cg_clock_of(TABLES(&t), list, wrong[i], entries, 0, told, 1) == CG_MALFORMED, "clock_of", "2 comes before 15");
     expect(cg_missing(TABLES(&t), list, wrong[i], out, 128, told, 1) == CG_MALFORMED, "missing", "a list that is no multiple of 32");
     expect(cg_missing(TABLES(&t), list, wrong[i], out, 0, told, 1) == CG_MALFORMED, "missing", "2 comes before 15");
+    expect(cg_clock_at(TABLES(&t), list, wrong[i], entries, 8, told, 1) == CG_MALFORMED, "clock_at", "a list that is no multiple of 32");
+    expect(cg_clock_at(TABLES(&t), list, wrong[i], entries, 0, told, 1) == CG_MALFORMED, "clock_at", "2 comes before 15");
+    expect(cg_deps_for_hash(TABLES(&t), list, wrong[i], out, 128, told, 1) == CG_MALFORMED, "deps_for_hash", "a hash that is not 32 bytes");
+    expect(cg_deps_for_hash(TABLES(&t), list, wrong[i], out, 0, told, 1) == CG_MALFORMED, "deps_for_hash", "2 comes before 15");
+    expect(cg_heads_are_current(TABLES(&t), list, wrong[i], told, 1) == CG_MALFORMED, "heads_are_current", "a list that is no multiple of 32");
     expect(cg_hash_to_index(TABLES(&t), list, wrong[i], told, 1) == CG_MALFORMED, "hash_to_index", "a hash that is not 32 bytes");
     expect(cg_has_change(TABLES(&t), list, wrong[i], told, 1) == CG_MALFORMED, "has_change", "a hash that is not 32 bytes");
   }
@@ -310,6 +324,18 @@ static void further(void) {
   memcpy(list + 64, h3, 32);
   expect(cg_clock_of(TABLES(&t), list, 96, entries, 2, told, 1) == CG_DONE && entries[0] == 2 && entries[1] == 1, "clock_of", "both heads, and an unknown hash between them");
 
+  expect(cg_clock_at(TABLES(&t), list, 96, entries, 2, told, 1) == CG_DONE && entries[0] == 5 && entries[1] == 5, "clock_at", "both heads");
+  expect(cg_clock_at(TABLES(&t), h9, 32, entries, 2, told, 1) == CG_DONE && entries[0] == 0 && entries[1] == 0, "clock_at", "nothing of an unknown hash");
+  expect(cg_deps_for_hash(TABLES(&t), h9, 32, out, 0, told, 1) == CG_DONE && told[0] == 0, "deps_for_hash", "none of an unknown hash, and no buffer is needed");
+  expect(cg_deps_for_hash(TABLES(&t), h1, 32, out, 0, told, 1) == CG_DONE && told[0] == 0, "deps_for_hash", "none of the first");
+  expect(cg_heads_are_current(TABLES(&t), list, 96, told, 1) == CG_DONE && told[0] == 0, "heads_are_current", "no with an unknown hash");
+  expect(cg_heads_are_current(TABLES(&t), h2, 32, told, 1) == CG_DONE && told[0] == 0, "heads_are_current", "no with a head left out");
+  expect(cg_heads_are_current(TABLES(&t), h2, 0, told, 1) == CG_DONE && told[0] == 0, "heads_are_current", "no of an empty list");
+  memcpy(list + 32, h3, 32);
+  memcpy(list, h3, 32);
+  memcpy(list + 64, h2, 32);
+  expect(cg_heads_are_current(TABLES(&t), list, 96, told, 1) == CG_DONE && told[0] == 1, "heads_are_current", "order and repeats are ignored");
+
   memset(out, 0xCC, sizeof out);
   expect(cg_missing(TABLES(&t), list, 0, out, 0, told, 1) == CG_DONE && told[0] == 96 && out[0] == 0xCC, "missing", "an empty have-list writes nothing, and 15 is not given");
   expect(cg_missing_shown(t.hashes, out, 0) == t.hashes && cg_missing_shown(t.hashes, out, 32) == out, "missing", "what is shown");
@@ -339,12 +365,15 @@ static void further(void) {
   expect(cg_clock_of(TABLES(&t), h2, 32, entries, 3, told, 1) == CG_DONE && entries[0] == 1 && entries[1] == 0 && entries[2] == 1, "clock_of", "the entry moved with its actor");
 
   /* Sequence 1 with max op 9, then 2 with max op 4. */
-  Graph p = graph_of(2, 1, 1, 0);
+  Graph p = graph_of(2, 1, 1, 0); /* neither depends on the other */
   Lent u = lent_of(&p);
   expect(open_graph(&p, 1) == CG_DONE && add(&p, 1, 0, 1, 9, 1, NULL, 0) == CG_DONE && add(&p, 2, 0, 2, 4, 1, NULL, 0) == CG_DONE, "max_op", "two changes");
   expect(cg_max_op_for_actor(TABLES(&u), 0, told, 1) == CG_DONE && told[0] == 4, "max_op_for_actor", "the last change's, not the largest");
   expect(cg_max_op(TABLES(&u), told, 1) == CG_DONE && told[0] == 9, "max_op", "the largest");
   expect(cg_missing(TABLES(&u), h2, 32, out, 0, told, 1) == CG_DONE && told[0] == 0, "missing", "not chained: nothing is missing though H1 is outside the history");
+
+  expect(cg_clock_at(TABLES(&u), h2, 32, entries, 1, told, 1) == CG_DONE && entries[0] == 4, "clock_at", "the max op at the largest sequence, not the largest");
+  expect(cg_chained(TABLES(&u), told, 1) == CG_DONE && told[0] == 0, "chained", "no where sequence 2 does not name sequence 1");
 
   /* An empty graph, and room 0. */
   Graph none = graph_of(0, 0, 0, 0);
@@ -353,6 +382,8 @@ static void further(void) {
   expect(cg_heads(TABLES(&v), out, 0, told, 1) == CG_DONE && told[0] == 0, "heads", "no heads");
   expect(cg_clock_of(TABLES(&v), h1, 32, entries, 0, told, 1) == CG_DONE && told[0] == 0, "clock_of", "a clock of no entries");
   expect(cg_len(TABLES(&v), told, 1) == CG_DONE && told[0] == 0, "len", "no changes");
+  expect(cg_heads_are_current(TABLES(&v), h1, 0, told, 1) == CG_DONE && told[0] == 1, "heads_are_current", "no heads are listed by no list");
+  expect(cg_chained(TABLES(&v), told, 1) == CG_DONE && told[0] == 1, "chained", "an empty graph is chained");
   expect(cg_missing(TABLES(&v), h1, 0, out, 0, told, 1) == CG_DONE && told[0] == 0, "missing", "nothing of nothing");
 }
 

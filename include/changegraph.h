@@ -16,7 +16,7 @@ extern "C" {
 #endif
 
 /* What a function may answer. Every number but CG_DONE leaves all lent memory as it was, except a text answer refused with
- * CG_SHORT_BUFFER, which becomes all zeros. */
+ * CG_SHORT_BUFFER, which becomes all zeros, and the place in which cg_add tells with CG_UNKNOWN_DEPENDENCY which one is unknown. */
 enum {
   CG_DONE = 0,                /* done */
   CG_NOT_VALID = 1,           /* lent tables or queue not valid, or two clocks of different lengths to compare */
@@ -86,10 +86,12 @@ uint32_t cg_open(const uint8_t *hashes, size_t hashes_len, const uint32_t *nodes
                  const uint32_t *clocks, size_t clocks_len, uint32_t *counts, size_t counts_len, uint64_t actors);
 
 /* Adds a change: its hash, actor, sequence, max op, op count, and the hashes of its dependencies one after the other.
- * CG_DONE, CG_NOT_VALID, and CG_MALFORMED to CG_NO_EDGE_ROOM in this order. */
+ * With CG_UNKNOWN_DEPENDENCY unknown[0] is the position of the first unknown one among them, from 0; with every other number `unknown` stays as it was.
+ * `unknown_len` may be 0: then nothing is told, which is no refusal. CG_DONE, CG_NOT_VALID, and CG_MALFORMED to CG_NO_EDGE_ROOM in this order. */
 uint32_t cg_add(uint8_t *hashes, size_t hashes_len, uint32_t *nodes, size_t nodes_len, Edge *edges, size_t edges_len, uint32_t *clocks,
                 size_t clocks_len, uint32_t *counts, size_t counts_len, const uint8_t *hash, size_t hash_len, uint64_t actor,
-                uint64_t sequence, uint64_t max_op, uint64_t op_count, const uint8_t *dependencies, size_t dependencies_len);
+                uint64_t sequence, uint64_t max_op, uint64_t op_count, const uint8_t *dependencies, size_t dependencies_len, uint64_t *unknown,
+                size_t unknown_len);
 
 /* Puts an actor in at a place: numbers from the place on move up by one, in changes and in cached clocks.
  * CG_DONE, CG_NOT_VALID, CG_NO_ACTOR_ROOM. */
@@ -196,6 +198,28 @@ uint32_t cg_num_actors(const uint8_t *hashes, size_t hashes_len, const uint32_t 
 uint32_t cg_actor_ids(const uint8_t *hashes, size_t hashes_len, const uint32_t *nodes, size_t nodes_len, const Edge *edges, size_t edges_len,
                       const uint32_t *clocks, size_t clocks_len, const uint32_t *counts, size_t counts_len,
                       uint64_t which, uint32_t *out, size_t out_len, uint64_t *told, size_t told_len);
+
+/* The op clock of a list of hashes: out[a] is the max op of actor a's change at the largest sequence in the list's history, 0 for nothing.
+ * As many entries as there are actors. CG_DONE, CG_NOT_VALID, CG_MALFORMED (the list is no multiple of 32 bytes), CG_SHORT_BUFFER. */
+uint32_t cg_clock_at(const uint8_t *hashes, size_t hashes_len, const uint32_t *nodes, size_t nodes_len, const Edge *edges, size_t edges_len,
+                     const uint32_t *clocks, size_t clocks_len, const uint32_t *counts, size_t counts_len,
+                     const uint8_t *list, size_t list_len, uint32_t *out, size_t out_len, uint64_t *told, size_t told_len);
+
+/* The hashes of the dependencies of the change with the hash, in the order in which they were listed, with repeats; none of an unknown hash.
+ * CG_DONE, CG_NOT_VALID, CG_MALFORMED (the hash is not 32 bytes), CG_SHORT_BUFFER. */
+uint32_t cg_deps_for_hash(const uint8_t *hashes, size_t hashes_len, const uint32_t *nodes, size_t nodes_len, const Edge *edges, size_t edges_len,
+                          const uint32_t *clocks, size_t clocks_len, const uint32_t *counts, size_t counts_len,
+                          const uint8_t *hash, size_t hash_len, uint8_t *out, size_t out_len, uint64_t *told, size_t told_len);
+
+/* Tells 1 where the list names exactly the heads, order and repeats ignored, else 0. CG_DONE, CG_NOT_VALID, CG_MALFORMED (the list is no multiple of 32 bytes). */
+uint32_t cg_heads_are_current(const uint8_t *hashes, size_t hashes_len, const uint32_t *nodes, size_t nodes_len, const Edge *edges, size_t edges_len,
+                              const uint32_t *clocks, size_t clocks_len, const uint32_t *counts, size_t counts_len,
+                              const uint8_t *list, size_t list_len, uint64_t *told, size_t told_len);
+
+/* Tells 1 where every change with sequence 2 or more names its actor's preceding change among its own dependencies, else 0. CG_DONE, CG_NOT_VALID. */
+uint32_t cg_chained(const uint8_t *hashes, size_t hashes_len, const uint32_t *nodes, size_t nodes_len, const Edge *edges, size_t edges_len,
+                    const uint32_t *clocks, size_t clocks_len, const uint32_t *counts, size_t counts_len,
+                    uint64_t *told, size_t told_len);
 
 /* ---- clocks: an entry for each actor, 0 for nothing. A count above 64 is CG_NOT_VALID, a place not below the count CG_NO_ACTOR. */
 
