@@ -1,0 +1,1 @@
+// No code: what the promises of the public questions come to where they refuse.
