@@ -9,7 +9,7 @@ if [ -z "$CC" ]; then
 fi
 host/archive.sh
 mkdir -p target/host
-for test in graph_test questions_test; do
+for test in graph_test questions_test queue_test load_test; do
   $CC $CFLAGS "host/$test.c" target/libchangegraph.a -o "target/host/$test"
   $RUN "target/host/$test"
   if [ -n "$MEMCHECK" ]; then

@@ -221,6 +221,101 @@ uint32_t cg_chained(const uint8_t *hashes, size_t hashes_len, const uint32_t *no
                     const uint32_t *clocks, size_t clocks_len, const uint32_t *counts, size_t counts_len,
                     uint64_t *told, size_t told_len);
 
+/* ---- loading a graph, and forgetting what is only cached */
+
+/* Loads a graph from decoded columns and replaces what the tables held, which may be anything: of the tables only the lengths are checked. A change takes one
+ * element of each column: its hash (32 bytes of `ids`), actor, sequence, max op, op count, and how many dependencies it has. `dep_values` are the numbers of the
+ * changes that are depended on, change after change; values past the last change's are ignored. `heads` are the stated heads, 32 bytes each, in any order.
+ * `actor_count` is how many actors there are. Clocks are cached as adding the changes one after the other would cache them.
+ * CG_DONE, CG_NOT_VALID (lengths that disagree), CG_MALFORMED, CG_NO_ACTOR_ROOM, CG_COLUMNS_DISAGREE, CG_NO_NODE_ROOM, CG_NO_EDGE_ROOM, in this order.
+ * With every number but CG_DONE the tables are as they were. */
+uint32_t cg_load(uint8_t *hashes, size_t hashes_len, uint32_t *nodes, size_t nodes_len, Edge *edges, size_t edges_len, uint32_t *clocks,
+                 size_t clocks_len, uint32_t *counts, size_t counts_len, const uint8_t *ids, size_t ids_len, const uint64_t *actors,
+                 size_t actors_len, const uint64_t *sequences, size_t sequences_len, const uint64_t *max_ops, size_t max_ops_len,
+                 const uint64_t *op_counts, size_t op_counts_len, const uint64_t *dep_counts, size_t dep_counts_len,
+                 const uint64_t *dep_values, size_t dep_values_len, const uint8_t *heads, size_t heads_len, uint64_t actor_count);
+
+/* Throws all cached clocks away: the rows of the changes become 0. Answers stay the same. CG_DONE, CG_NOT_VALID. */
+uint32_t cg_forget(const uint8_t *hashes, size_t hashes_len, const uint32_t *nodes, size_t nodes_len, const Edge *edges, size_t edges_len,
+                   uint32_t *clocks, size_t clocks_len, const uint32_t *counts, size_t counts_len);
+
+/* ---- waiting changes: a queue and a batch
+ *
+ * Changes whose dependencies are not all known yet wait in a queue. A batch has the same tables: changes are pushed to it one by one, and handed over to the queue
+ * all at once or not at all. Q records of room, at most 256; the lengths set it. Room above that, or lengths that disagree, is CG_NOT_VALID.
+ *
+ *   hashes    32 Q bytes         the hash of record i at 32 i
+ *   numbers   5 Q numbers        of record i at 5 i: actor key, sequence, max op, op count, number of dependencies
+ *   deps      1,024 Q bytes      of record i at 1,024 i: the hashes of its dependencies, 32 at most; bytes past them are not read
+ *   count     1 number           how many records wait, at the front of the tables in queue order
+ *
+ * An actor key is any number of the caller's that names an actor; it is never renumbered. A valid queue has its count within the room, at most 32 dependencies
+ * a record, and no hash twice, nor actor key and sequence. Each function checks all tables that it is lent. Records that are handed out go into three tables of
+ * the same forms and any room, the first record at the front: a record's own dependencies are written, the other bytes of its row stay, and so do all rows past
+ * the last. A yes (1) or no (0), and how many records were handed out, are told in told[0], with CG_DONE alone; `told_len` may be 0: then nothing is told, which
+ * is no refusal. Places past the first stay. */
+
+enum {
+  CG_NUMBERS = 5,       /* numbers of a waiting change */
+  CG_DEPS = 32 * 32     /* bytes for its dependencies */
+};
+
+/* Opens an empty queue or batch: sets the count to 0 and nothing else. The tables may hold anything; only their lengths are checked. CG_DONE, CG_NOT_VALID. */
+uint32_t cg_queue_open(const uint8_t *hashes, size_t hashes_len, const uint64_t *numbers, size_t numbers_len, const uint8_t *deps, size_t deps_len,
+                       uint32_t *count, size_t count_len);
+
+/* Pushes a change to a batch: its hash, actor key, sequence, max op, op count, and the hashes of its dependencies one after the other. Max op and op count are kept
+ * and not judged here. CG_DONE, CG_NOT_VALID, CG_MALFORMED, CG_ALREADY_KNOWN (the batch has the hash), CG_ALREADY_WAITING (the batch has the actor key and
+ * sequence), CG_MANY_DEPENDENCIES, CG_NO_QUEUE_ROOM, in this order. */
+uint32_t cg_batch_push(uint8_t *hashes, size_t hashes_len, uint64_t *numbers, size_t numbers_len, uint8_t *deps, size_t deps_len, uint32_t *count,
+                       size_t count_len, const uint8_t *hash, size_t hash_len, uint64_t key, uint64_t sequence, uint64_t max_op,
+                       uint64_t op_count, const uint8_t *dependencies, size_t dependencies_len);
+
+/* Hands a batch over to a queue: its records stand after the queue's, and its count becomes 0. CG_DONE, CG_NOT_VALID (either of the two), CG_ALREADY_WAITING (any
+ * record of the batch has the hash, or the actor key and sequence, of any in the queue), CG_NO_QUEUE_ROOM, in this order. */
+uint32_t cg_hand_over(uint8_t *hashes, size_t hashes_len, uint64_t *numbers, size_t numbers_len, uint8_t *deps, size_t deps_len, uint32_t *count,
+                      size_t count_len, const uint8_t *batch_hashes, size_t batch_hashes_len, const uint64_t *batch_numbers,
+                      size_t batch_numbers_len, const uint8_t *batch_deps, size_t batch_deps_len, uint32_t *batch_count, size_t batch_count_len);
+
+/* Tells whether nothing waits. CG_DONE, CG_NOT_VALID. */
+uint32_t cg_queue_is_empty(const uint8_t *hashes, size_t hashes_len, const uint64_t *numbers, size_t numbers_len, const uint8_t *deps, size_t deps_len,
+                           const uint32_t *count, size_t count_len, uint64_t *told, size_t told_len);
+
+/* Tells whether a change with the hash waits. CG_DONE, CG_NOT_VALID, CG_MALFORMED (the hash is not 32 bytes). */
+uint32_t cg_queue_has_hash(const uint8_t *hashes, size_t hashes_len, const uint64_t *numbers, size_t numbers_len, const uint8_t *deps, size_t deps_len,
+                           const uint32_t *count, size_t count_len, const uint8_t *hash, size_t hash_len, uint64_t *told, size_t told_len);
+
+/* Tells whether a change with the actor key and the sequence waits. CG_DONE, CG_NOT_VALID. */
+uint32_t cg_queue_has_actor_seq(const uint8_t *hashes, size_t hashes_len, const uint64_t *numbers, size_t numbers_len, const uint8_t *deps, size_t deps_len,
+                                const uint32_t *count, size_t count_len, uint64_t key, uint64_t sequence, uint64_t *told, size_t told_len);
+
+/* Hands out copies of all waiting records, in queue order, and tells how many; the queue stays. CG_DONE, CG_NOT_VALID, CG_SHORT_BUFFER (one of the three tables
+ * cannot hold them all whole). */
+uint32_t cg_queue_iter(const uint8_t *hashes, size_t hashes_len, const uint64_t *numbers, size_t numbers_len, const uint8_t *deps, size_t deps_len,
+                       const uint32_t *count, size_t count_len, uint8_t *to_hashes, size_t to_hashes_len, uint64_t *to_numbers, size_t to_numbers_len,
+                       uint8_t *to_deps, size_t to_deps_len, uint64_t *told, size_t told_len);
+
+/* Drops the changes of the actor key at or after the sequence, and all waiting ones that depend on them, directly or through other waiting ones. The rest closes
+ * up and keeps its order. CG_DONE, CG_NOT_VALID. */
+uint32_t cg_remove_actor_branch_from(uint8_t *hashes, size_t hashes_len, uint64_t *numbers, size_t numbers_len, uint8_t *deps, size_t deps_len,
+                                     uint32_t *count, size_t count_len, uint64_t key, uint64_t sequence);
+
+/* Releases every change that is ready against a graph: hands them out in the order in which they can be added, and tells how many. Ready is what depends only on the
+ * graph's changes and on other ready ones. The rest closes up and keeps its order. The graph itself is not changed. CG_DONE, CG_NOT_VALID (graph or queue),
+ * CG_SHORT_BUFFER (one of the three tables cannot hold them all whole; none is released then), in this order. */
+uint32_t cg_release(const uint8_t *hashes, size_t hashes_len, const uint32_t *nodes, size_t nodes_len, const Edge *edges, size_t edges_len,
+                    const uint32_t *clocks, size_t clocks_len, const uint32_t *counts, size_t counts_len, uint8_t *queue_hashes,
+                    size_t queue_hashes_len, uint64_t *queue_numbers, size_t queue_numbers_len, uint8_t *queue_deps, size_t queue_deps_len,
+                    uint32_t *queue_count, size_t queue_count_len, uint8_t *to_hashes, size_t to_hashes_len, uint64_t *to_numbers,
+                    size_t to_numbers_len, uint8_t *to_deps, size_t to_deps_len, uint64_t *told, size_t told_len);
+
+/* The same against the first `known` hashes of a table: for a caller that knows its graph to be valid and would not have it checked each time.
+ * CG_NOT_VALID also where the table has fewer than `known`. */
+uint32_t cg_queue_release(const uint8_t *hashes, size_t hashes_len, size_t known, uint8_t *queue_hashes, size_t queue_hashes_len,
+                          uint64_t *queue_numbers, size_t queue_numbers_len, uint8_t *queue_deps, size_t queue_deps_len, uint32_t *queue_count,
+                          size_t queue_count_len, uint8_t *to_hashes, size_t to_hashes_len, uint64_t *to_numbers, size_t to_numbers_len,
+                          uint8_t *to_deps, size_t to_deps_len, uint64_t *told, size_t told_len);
+
 /* ---- clocks: an entry for each actor, 0 for nothing. A count above 64 is CG_NOT_VALID, a place not below the count CG_NO_ACTOR. */
 
 typedef struct Clock {
@@ -239,6 +334,36 @@ uint32_t cg_clock_covers(const Clock *clock, const Clock *other, uint32_t *yes);
 
 /* The entry becomes 4,294,967,295. */
 uint32_t cg_clock_isolate(Clock *clock, size_t place);
+
+/* ---- clocks on slices: the entries, and how many of them are in use (for a Clock: entries, 64, count). A count above the entries lent is CG_NOT_VALID. A yes (1) or
+ * no (0), and an entry, are told in told[0], with CG_DONE alone; `told_len` may be 0: then nothing is told, which is no refusal. */
+
+/* Tells the entry at the place, and 0 for a place not below the count. CG_DONE, CG_NOT_VALID. */
+uint32_t cg_clock_get(const uint32_t *entries, size_t entries_len, size_t count, size_t place, uint64_t *told, size_t told_len);
+
+/* Tells whether an op clock covers the op: whether its counter is not above the actor's entry. CG_DONE, CG_NOT_VALID, CG_NO_ACTOR. */
+uint32_t cg_clock_op_covers(const uint32_t *entries, size_t entries_len, size_t count, size_t actor, uint64_t counter, uint64_t *told, size_t told_len);
+
+/* A new actor at the place, with nothing: entries from there on move up by one. There must be room for one more entry; the count is the caller's to raise.
+ * CG_DONE, CG_NOT_VALID, CG_NO_ACTOR_ROOM (no room, or the place is above the count). */
+uint32_t cg_clock_rewrite_with_new_actor(uint32_t *entries, size_t entries_len, size_t count, size_t place);
+
+/* The actor at the place goes: entries past it move down by one, and 0 stands where the last one was. The count is the caller's to lower. CG_DONE, CG_NOT_VALID, CG_NO_ACTOR. */
+uint32_t cg_clock_remove_actor(uint32_t *entries, size_t entries_len, size_t count, size_t place);
+
+/* A range of history between two op clocks. Of a kind, clocks that are not named are not asked, but their counts are checked. */
+enum {
+  CG_RANGE_CURRENT = 0,    /* all that there is */
+  CG_RANGE_CURRENT_AT = 1, /* all up to the clock `after` */
+  CG_RANGE_DIFF = 2        /* from the clock `before` to the clock `after`; every larger number is this kind too */
+};
+
+/* Tells whether the op is visible at the range's end, and whether it is older than the range. CG_DONE, CG_NOT_VALID (a count above its entries, of either clock),
+ * CG_NO_ACTOR (a clock that is asked has no such place). */
+uint32_t cg_clock_visible_after(uint32_t kind, const uint32_t *before, size_t before_len, size_t before_count, const uint32_t *after, size_t after_len,
+                                size_t after_count, size_t actor, uint64_t counter, uint64_t *told, size_t told_len);
+uint32_t cg_clock_visible_before(uint32_t kind, const uint32_t *before, size_t before_len, size_t before_count, const uint32_t *after, size_t after_len,
+                                 size_t after_count, size_t actor, uint64_t counter, uint64_t *told, size_t told_len);
 
 #ifdef __cplusplus
 }

@@ -4,10 +4,10 @@ use mathlib.Core.Path.{_≡_}
 use mathlib.Core.List.{List}
 use mathlib.Core.Bool.{cond}
 use Prim.Native.Nat.{ℕ}
-use lib.Dec.{eqb, ltb}
+use lib.Dec.{eqb}
 use Rattle.clock.specs.declared.Range.{Range}
 use Rattle.clock.specs.declared.Range.the-variants.{Current, CurrentAt, Diff}
-use Rattle.hub_clocks.specs.Told.{Told, numberOf, numberGot, afterTold, beforeTold}
+use Rattle.hub_clocks.specs.Told.{Told, numberOf, numberGot}
 use Rattle.hub_clocks.specs.declared.Answer.{Answer}
 use Rattle.hub_clocks.specs.declared.Answer.the-variants.{Done, Yes, No, NotValid, NoPlace, NoRoom}
 use Rattle.hub_clocks.specs.declared.Got.{Got}
@@ -42,13 +42,6 @@ pub record Changed (t : Told) (r : ℕ) (c′ : List ℕ) : Type 0 where
   pub number : r ≡ numberOf (t .answer)
   pub entries : c′ ≡ t .entries
 
--- the kind of a range from its number
+-- the kind of a range from its number: 0, 1, and 2 or any larger number
 abbrev pub rangeOf : ℕ → Range
 rangeOf k = cond (eqb k 0) Current (cond (eqb k 1) CurrentAt Diff)
-
--- the two questions on a range, whose kind is a number: above 2 there is none
-abbrev pub afterAnswer : ℕ → List ℕ → ℕ → List ℕ → ℕ → ℕ → ℕ → Answer
-afterAnswer k b n c m a counter = cond (ltb 2 k) NotValid (afterTold (rangeOf k) b n c m a counter)
-
-abbrev pub beforeAnswer : ℕ → List ℕ → ℕ → List ℕ → ℕ → ℕ → ℕ → Answer
-beforeAnswer k b n c m a counter = cond (ltb 2 k) NotValid (beforeTold (rangeOf k) b n c m a counter)

@@ -1,8 +1,8 @@
 // Clocks on slices, from C: the entries and the count of those in use. Each function answers the paper's number of what `hub_clocks` answers; a yes or no, and an
 // entry, are told in a lent place, which every number but 0 leaves as it was.
 ghost use mathlib.Core.Path.{_≡_};
-ghost use Rattle.hub_clocks.specs.Told.{getTold, opTold, insertTold, removeTold};
-ghost use Rattle.hub_clock_face.specs.Face.{yesIn, entryIn, Asked, Gave, Changed, rangeOf, afterAnswer, beforeAnswer};
+ghost use Rattle.hub_clocks.specs.Told.{getTold, opTold, insertTold, removeTold, afterTold, beforeTold};
+ghost use Rattle.hub_clock_face.specs.Face.{yesIn, entryIn, Asked, Gave, Changed, rangeOf};
 use clock::Range;
 use hub_clocks::Answer;
 use hub_clocks::Got;
@@ -37,7 +37,7 @@ fn tell_entry(g: Got, told: &mut [u64])
     }
 }
 
-// The kind of a range: 0, 1 and 2 in the order of the enum.
+// The kind of a range: 0 and 1 for the first two, and every other number for the third.
 fn range_of(kind: u32) -> Range
     ensures { λ r. ⌜ r ≡ rangeOf kind ⌝ }
 {
@@ -48,42 +48,6 @@ fn range_of(kind: u32) -> Range
         return Range::CurrentAt;
     }
     Range::Diff
-}
-
-// Is the op visible at the range's end? A kind above 2 is no range.
-fn after_of(
-    kind: u32,
-    before: &[u32],
-    n: usize,
-    after: &[u32],
-    m: usize,
-    actor: usize,
-    counter: u64,
-) -> Answer
-    ensures { λ r. ⌜ r ≡ afterAnswer kind (now (before .entry)) n (now (after .entry)) m actor counter ⌝ }
-{
-    if 2 < kind {
-        return Answer::NotValid;
-    }
-    hub_clocks::try_visible_after(range_of(kind), before, n, after, m, actor, counter)
-}
-
-// Is the op older than the range? A kind above 2 is no range.
-fn before_of(
-    kind: u32,
-    before: &[u32],
-    n: usize,
-    after: &[u32],
-    m: usize,
-    actor: usize,
-    counter: u64,
-) -> Answer
-    ensures { λ r. ⌜ r ≡ beforeAnswer kind (now (before .entry)) n (now (after .entry)) m actor counter ⌝ }
-{
-    if 2 < kind {
-        return Answer::NotValid;
-    }
-    hub_clocks::try_visible_before(range_of(kind), before, n, after, m, actor, counter)
 }
 
 // The entry at a place, nothing for a place not below the count: 1 or 0.
@@ -144,9 +108,9 @@ pub extern "C" fn cg_clock_visible_after(
     counter: u64,
     told: &mut [u64],
 ) -> u32
-    ensures { λ r. ⌜ Asked (afterAnswer kind (now (before .entry)) n (now (after .entry)) m actor counter) (now (told .entry)) r (now (told .exit)) ⌝ }
+    ensures { λ r. ⌜ Asked (afterTold (rangeOf kind) (now (before .entry)) n (now (after .entry)) m actor counter) (now (told .entry)) r (now (told .exit)) ⌝ }
 {
-    let a = after_of(kind, before, n, after, m, actor, counter);
+    let a = hub_clocks::try_visible_after(range_of(kind), before, n, after, m, actor, counter);
     tell_yes(a, told);
     hub_clocks::number(a)
 }
@@ -163,9 +127,9 @@ pub extern "C" fn cg_clock_visible_before(
     counter: u64,
     told: &mut [u64],
 ) -> u32
-    ensures { λ r. ⌜ Asked (beforeAnswer kind (now (before .entry)) n (now (after .entry)) m actor counter) (now (told .entry)) r (now (told .exit)) ⌝ }
+    ensures { λ r. ⌜ Asked (beforeTold (rangeOf kind) (now (before .entry)) n (now (after .entry)) m actor counter) (now (told .entry)) r (now (told .exit)) ⌝ }
 {
-    let a = before_of(kind, before, n, after, m, actor, counter);
+    let a = hub_clocks::try_visible_before(range_of(kind), before, n, after, m, actor, counter);
     tell_yes(a, told);
     hub_clocks::number(a)
 }

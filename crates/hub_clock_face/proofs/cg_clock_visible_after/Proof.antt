@@ -6,12 +6,13 @@ use Rattle.hub_clock_face.proofs.cg_clock_visible_after.Statement.{stat
 use Rattle.hub_clock_face.proofs.cg_clock_visible_after.Tie as tie
 
 returns : tie.Need-returns
-returns c = asks _ _ _ _ _ (c .before .before .before .before .before .after-of .ensures) (c .number .ensures) (c .before .before .before .tell-yes .ensures)
+returns c = asks _ _ _ _ _ (rw (c .before .before .before .before .before .before .range-of .ensures) at (c .before .before .before .before .before .try-visible-after .ensures)) (c .number .ensures) (c .before .before .before .tell-yes .ensures)
 
 pub cg-clock-visible-after-spec : {M : Type 1} → statement M
 cg-clock-visible-after-spec =
     tie.close
     (tie.spec
+    (λ c κs. search needs)
     (λ c κs. search needs)
     (λ c κs. search needs)
     (λ c κs. search needs)
