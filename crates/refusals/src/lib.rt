@@ -1,1 +1,0 @@
-// No code: what the promises of the public questions come to where they refuse.
