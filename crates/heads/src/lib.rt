@@ -1,4 +1,4 @@
-// The heads of a graph in valid tables: their hashes in ascending order, their nodes, and whether a list is theirs. Nothing is changed but the lent buffer.
+// The heads of a graph in valid tables: their hashes in ascending order, and their nodes in that order. Nothing is changed but the lent buffer.
 ghost use mathlib.Core.Path.{_≡_};
 ghost use mathlib.Core.Bool.{Bool};
 ghost use mathlib.Core.List.{map};

@@ -93,7 +93,7 @@ pub extern "C" fn cg_heads(
     )
 }
 
-// The heads' nodes, in node order, and how many they are.
+// The heads' nodes, in the order of their hashes, and how many they are.
 fn head_indexes_checked(
     hashes: &[u8],
     nodes: &[u32],
@@ -144,7 +144,7 @@ fn head_indexes_told(
     )
 }
 
-// The heads' nodes, in node order, and how many they are. Answers 0; 1 where the tables are not valid; 15 where there are more than the buffer has entries.
+// The heads' nodes, in the order of their hashes, and how many they are. Answers 0; 1 where the tables are not valid; 15 where there are more than the buffer has entries.
 #[no_mangle]
 pub extern "C" fn cg_head_indexes(
     hashes: &[u8],
