@@ -375,6 +375,13 @@ static void further(void) {
   expect(cg_clock_at(TABLES(&u), h2, 32, entries, 1, told, 1) == CG_DONE && entries[0] == 4, "clock_at", "the max op at the largest sequence, not the largest");
   expect(cg_chained(TABLES(&u), told, 1) == CG_DONE && told[0] == 0, "chained", "no where sequence 2 does not name sequence 1");
 
+  /* Two heads whose hashes descend: they are listed in the order of their hashes. */
+  Graph two = graph_of(2, 0, 1, 0);
+  Lent w = lent_of(&two);
+  expect(open_graph(&two, 1) == CG_DONE && add(&two, 9, 0, 1, 1, 1, NULL, 0) == CG_DONE && add(&two, 2, 0, 2, 2, 1, NULL, 0) == CG_DONE, "heads", "two changes");
+  expect(cg_heads(TABLES(&w), out, 64, told, 1) == CG_DONE && told[0] == 64 && memcmp(out, h2, 32) == 0 && memcmp(out + 32, h9, 32) == 0, "heads", "ascending");
+  expect(cg_head_indexes(TABLES(&w), entries, 2, told, 1) == CG_DONE && told[0] == 2 && entries[0] == 1 && entries[1] == 0, "head_indexes", "in the order of the hashes");
+
   /* An empty graph, and room 0. */
   Graph none = graph_of(0, 0, 0, 0);
   Lent v = lent_of(&none);

@@ -42,6 +42,42 @@ static void *run_insert(void *unused) {
   return NULL;
 }
 
+#define TABLES g.hashes, 32 * g.changes, g.nodes, 6 * g.changes, g.edges, g.edge_room, g.clocks, g.changes *g.actors, g.counts, 3
+
+static uint8_t last[32], answer[32 * 4096];
+static uint32_t entries[4096];
+static uint64_t told[1];
+
+static void *run_missing(void *unused) {
+  (void)unused;
+  number = cg_missing(TABLES, last, 32, answer, sizeof answer, told, 1);
+  return NULL;
+}
+
+static void *run_clock_of(void *unused) {
+  (void)unused;
+  number = cg_clock_of(TABLES, last, 32, entries, 64, told, 1);
+  return NULL;
+}
+
+static void *run_clock_at(void *unused) {
+  (void)unused;
+  number = cg_clock_at(TABLES, last, 32, entries, 64, told, 1);
+  return NULL;
+}
+
+static void *run_head_indexes(void *unused) {
+  (void)unused;
+  number = cg_head_indexes(TABLES, entries, 4096, told, 1);
+  return NULL;
+}
+
+static void *run_owner(void *unused) {
+  (void)unused;
+  number = cg_owner(TABLES, 63, 1, answer, 32, told, 1);
+  return NULL;
+}
+
 static void measure(const char *name, void *(*run)(void *)) {
   uint8_t *stack = mmap(NULL, STACK, PROT_READ | PROT_WRITE, MAP_PRIVATE | MAP_ANONYMOUS, -1, 0);
   memset(stack, 0xA5, STACK);
@@ -65,6 +101,12 @@ static void measure(const char *name, void *(*run)(void *)) {
 int main(void) {
   g = graph_of(4096, 16384, 64, 0);
   line_of(4095);
+  hash_of(4095, last);
+  measure("cg_missing", run_missing);
+  measure("cg_clock_of", run_clock_of);
+  measure("cg_clock_at", run_clock_at);
+  measure("cg_head_indexes", run_head_indexes);
+  measure("cg_owner, 14", run_owner);
   measure("cg_add, caching through the most levels", run_add);
   int cached = 0;
   for (uint32_t k = 0; k < 4096; k++) {

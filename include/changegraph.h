@@ -143,7 +143,7 @@ uint32_t cg_heads(const uint8_t *hashes, size_t hashes_len, const uint32_t *node
                   const uint32_t *clocks, size_t clocks_len, const uint32_t *counts, size_t counts_len,
                   uint8_t *out, size_t out_len, uint64_t *told, size_t told_len);
 
-/* The numbers of the heads, ascending. CG_DONE, CG_NOT_VALID, CG_SHORT_BUFFER. */
+/* The numbers of the heads, in the order of cg_heads. CG_DONE, CG_NOT_VALID, CG_SHORT_BUFFER. */
 uint32_t cg_head_indexes(const uint8_t *hashes, size_t hashes_len, const uint32_t *nodes, size_t nodes_len, const Edge *edges, size_t edges_len,
                          const uint32_t *clocks, size_t clocks_len, const uint32_t *counts, size_t counts_len,
                          uint32_t *out, size_t out_len, uint64_t *told, size_t told_len);
