@@ -1,0 +1,46 @@
+-- `hub_ancestors::remove_ancestors_told` meets its contract: it hands the first e edges on, or refuses where there is no room for them. Assumes nothing.
+-- Written by tools/opgen.py.
+use mathlib.Core.Path.{refl, sym}
+use mathlib.Core.Logic.{inl, inr}
+use lib.Seq.{length-take-le}
+use Rattle.edges.specs.Told.{asked-none, asked-part}
+use borrow.Author.Needs.{needs}
+use Rattle.hub_ancestors.proofs.remove_ancestors_told.Statement.{statement}
+use Rattle.hub_ancestors.proofs.remove_ancestors_told.Tie as tie
+
+returns : tie.Need-returns
+returns c = asked-none _ _ _ _ (inl (c .if1 .taken)) (refl, refl, refl)
+
+returns-2 : tie.Need-returns-2
+returns-2 c = asked-none _ _ _ _ (inr (c .if2 .taken)) (refl, refl, refl)
+
+slice-aggregate-remove-ancestors-checked : tie.Need-slice-aggregate-remove-ancestors-checked
+slice-aggregate-remove-ancestors-checked c = sym (length-take-le _ _ (c .before .before .if1 .left))
+
+slice-aggregate-remove-ancestors-checked-2 : tie.Need-slice-aggregate-remove-ancestors-checked-2
+slice-aggregate-remove-ancestors-checked-2 c = sym (length-take-le _ _ (c .before .before .if2 .left))
+
+remove-ancestors-checked-requires : tie.Need-remove-ancestors-checked-requires
+remove-ancestors-checked-requires c κs = search needs
+
+same-length : tie.Need-same-length
+same-length c = search needs
+
+same-length-2 : tie.Need-same-length-2
+same-length-2 c = search needs
+
+returns-3 : tie.Need-returns-3
+returns-3 c = asked-part _ _ _ _ (c .before .before .before .before .before .before .before .before .before .before .if1 .left) (c .before .before .before .before .before .before .before .before .before .if2 .left) (c .before .before .before .before .remove-ancestors-checked .ensures)
+
+pub remove-ancestors-told-spec : {M : Type 1} → statement M
+remove-ancestors-told-spec =
+    tie.close
+    (tie.spec
+    returns
+    returns-2
+    slice-aggregate-remove-ancestors-checked
+    slice-aggregate-remove-ancestors-checked-2
+    remove-ancestors-checked-requires
+    same-length
+    same-length-2
+    returns-3)
