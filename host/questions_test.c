@@ -88,6 +88,10 @@ static uint8_t both_heads[64];
 static uint32_t heads_are_current(const Lent *t, void *out, size_t n, uint64_t *told, size_t m) { (void)out; (void)n; return cg_heads_are_current(TABLES(t), both_heads, 64, told, m); }
 static uint32_t chained(const Lent *t, void *out, size_t n, uint64_t *told, size_t m) { (void)out; (void)n; return cg_chained(TABLES(t), told, m); }
 
+/* Of H1, H2 and H3 outside the history of H2: H3 alone. */
+static uint8_t all_three[96];
+static uint32_t remove_ancestors(const Lent *t, void *out, size_t n, uint64_t *told, size_t m) { return cg_remove_ancestors(TABLES(t), all_three, 96, h2, 32, out, n, told, m); }
+
 static const uint32_t three_five[2] = {3, 5}, ones[2] = {1, 1}, one_two[2] = {1, 2}, zero_one[2] = {0, 1};
 
 typedef struct Question {
@@ -116,6 +120,7 @@ static const Question questions[] = {
     {"num_actors", num_actors, 0, NULL, 2},
     {"clock_at", clock_at, 4, three_five, 2},
     {"deps_for_hash", deps_for_hash, 1, h1, 32},
+    {"remove_ancestors", remove_ancestors, 1, h3, 32},
     {"heads_are_current", heads_are_current, 0, NULL, 1},
     {"chained", chained, 0, NULL, 1},
 };
@@ -273,6 +278,9 @@ static void own_refusals(void) {
     expect(cg_clock_at(TABLES(&t), list, wrong[i], entries, 0, told, 1) == CG_MALFORMED, "clock_at", "2 comes before 15");
     expect(cg_deps_for_hash(TABLES(&t), list, wrong[i], out, 128, told, 1) == CG_MALFORMED, "deps_for_hash", "a hash that is not 32 bytes");
     expect(cg_deps_for_hash(TABLES(&t), list, wrong[i], out, 0, told, 1) == CG_MALFORMED, "deps_for_hash", "2 comes before 15");
+    expect(cg_remove_ancestors(TABLES(&t), list, wrong[i], h2, 32, out, 128, told, 1) == CG_MALFORMED, "remove_ancestors", "a list that is no multiple of 32");
+    expect(cg_remove_ancestors(TABLES(&t), h2, 32, list, wrong[i], out, 128, told, 1) == CG_MALFORMED, "remove_ancestors", "heads that are no multiple of 32");
+    expect(cg_remove_ancestors(TABLES(&t), h2, 32, list, wrong[i], out, 0, told, 1) == CG_MALFORMED, "remove_ancestors", "2 comes before 15");
     expect(cg_heads_are_current(TABLES(&t), list, wrong[i], told, 1) == CG_MALFORMED, "heads_are_current", "a list that is no multiple of 32");
     expect(cg_hash_to_index(TABLES(&t), list, wrong[i], told, 1) == CG_MALFORMED, "hash_to_index", "a hash that is not 32 bytes");
     expect(cg_has_change(TABLES(&t), list, wrong[i], told, 1) == CG_MALFORMED, "has_change", "a hash that is not 32 bytes");
@@ -328,6 +336,10 @@ static void further(void) {
   expect(cg_clock_at(TABLES(&t), h9, 32, entries, 2, told, 1) == CG_DONE && entries[0] == 0 && entries[1] == 0, "clock_at", "nothing of an unknown hash");
   expect(cg_deps_for_hash(TABLES(&t), h9, 32, out, 0, told, 1) == CG_DONE && told[0] == 0, "deps_for_hash", "none of an unknown hash, and no buffer is needed");
   expect(cg_deps_for_hash(TABLES(&t), h1, 32, out, 0, told, 1) == CG_DONE && told[0] == 0, "deps_for_hash", "none of the first");
+  expect(cg_remove_ancestors(TABLES(&t), list, 96, h9, 32, out, 96, told, 1) == CG_DONE && told[0] == 96 && memcmp(out, h2, 32) == 0 && memcmp(out + 32, h3, 32) == 0 && memcmp(out + 64, h9, 32) == 0,
+         "remove_ancestors", "unknown heads take nothing away; ascending");
+  expect(cg_remove_ancestors(TABLES(&t), list, 96, both_heads, 64, out, 32, told, 1) == CG_DONE && told[0] == 32 && memcmp(out, h9, 32) == 0, "remove_ancestors", "an unknown hash stays");
+  expect(cg_remove_ancestors(TABLES(&t), both_heads, 64, both_heads, 64, out, 0, told, 1) == CG_DONE && told[0] == 0, "remove_ancestors", "heads are in their own history, and no buffer is needed");
   expect(cg_heads_are_current(TABLES(&t), list, 96, told, 1) == CG_DONE && told[0] == 0, "heads_are_current", "no with an unknown hash");
   expect(cg_heads_are_current(TABLES(&t), h2, 32, told, 1) == CG_DONE && told[0] == 0, "heads_are_current", "no with a head left out");
   expect(cg_heads_are_current(TABLES(&t), h2, 0, told, 1) == CG_DONE && told[0] == 0, "heads_are_current", "no of an empty list");
@@ -423,6 +435,8 @@ int main(void) {
   hash_of(9, h9);
   memcpy(both_heads, h2, 32);
   memcpy(both_heads + 32, h3, 32);
+  memcpy(all_three, h1, 32);
+  memcpy(all_three + 32, both_heads, 64);
   answers();
   damaged();
   lengths();

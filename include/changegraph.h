@@ -211,6 +211,13 @@ uint32_t cg_deps_for_hash(const uint8_t *hashes, size_t hashes_len, const uint32
                           const uint32_t *clocks, size_t clocks_len, const uint32_t *counts, size_t counts_len,
                           const uint8_t *hash, size_t hash_len, uint8_t *out, size_t out_len, uint64_t *told, size_t told_len);
 
+/* The hashes of the list that lie outside the history of the heads given, ascending, each once. Unknown hashes of the list stay; unknown heads count for nothing.
+ * CG_DONE, CG_NOT_VALID, CG_MALFORMED (the list or the heads are no multiple of 32 bytes), CG_SHORT_BUFFER. */
+uint32_t cg_remove_ancestors(const uint8_t *hashes, size_t hashes_len, const uint32_t *nodes, size_t nodes_len, const Edge *edges, size_t edges_len,
+                             const uint32_t *clocks, size_t clocks_len, const uint32_t *counts, size_t counts_len,
+                             const uint8_t *list, size_t list_len, const uint8_t *heads, size_t heads_len, uint8_t *out, size_t out_len,
+                             uint64_t *told, size_t told_len);
+
 /* Tells 1 where the list names exactly the heads, order and repeats ignored, else 0. CG_DONE, CG_NOT_VALID, CG_MALFORMED (the list is no multiple of 32 bytes). */
 uint32_t cg_heads_are_current(const uint8_t *hashes, size_t hashes_len, const uint32_t *nodes, size_t nodes_len, const Edge *edges, size_t edges_len,
                               const uint32_t *clocks, size_t clocks_len, const uint32_t *counts, size_t counts_len,
