@@ -2,7 +2,7 @@
 # Makes target/libchangegraph.a: the archives of the crates that C calls, joined into one.
 set -euo pipefail
 cd "$(dirname "$0")/.."
-crates="clocks hub_graph hub_add hub_actors hub_clock hub_missing hub_owner hub_heads hub_lookups hub_hashes hub_counts hub_sizes hub_op_clock hub_deps hub_ancestors hub_current hub_chained hub_forget hub_load hub_batch hub_queue hub_release hub_clock_face"
+crates="clocks hub_graph hub_add hub_actors hub_clock hub_missing hub_owner hub_heads hub_lookups hub_hashes hub_counts hub_sizes hub_op_clock hub_deps hub_ancestors hub_current hub_chained hub_forget hub_load hub_batch hub_queue hub_release hub_clock_face session"
 kit="$(dirname "$(readlink -f "$(command -v rt)")")/.."
 ar="$kit/on/$(uname -m)/toolchain/bin/llvm-ar"
 [ -x "$ar" ] || ar=ar

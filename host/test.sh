@@ -9,10 +9,14 @@ if [ -z "$CC" ]; then
 fi
 host/archive.sh
 mkdir -p target/host
-for test in graph_test questions_test queue_test load_test; do
+for test in graph_test questions_test queue_test load_test session_test; do
   $CC $CFLAGS "host/$test.c" target/libchangegraph.a -o "target/host/$test"
   $RUN "target/host/$test"
   if [ -n "$MEMCHECK" ]; then
     $MEMCHECK "target/host/$test"
   fi
 done
+# A list of the user's, from a file.
+$CC $CFLAGS host/session.c target/libchangegraph.a -o target/host/session
+$RUN target/host/session examples/worked.list | cmp - examples/worked.answer
+echo "session: examples/worked.list has its answer"

@@ -372,6 +372,18 @@ uint32_t cg_clock_visible_after(uint32_t kind, const uint32_t *before, size_t be
 uint32_t cg_clock_visible_before(uint32_t kind, const uint32_t *before, size_t before_len, size_t before_count, const uint32_t *after, size_t after_len,
                                  size_t after_count, size_t actor, uint64_t counter, uint64_t *told, size_t told_len);
 
+/* ---- the text session: a change list in, its answers out. The session keeps its own graph for the time of the call, with room for CG_BENCH_CHANGES
+ * changes, CG_BENCH_EDGES edges and CG_BENCH_ACTORS actors. */
+
+/* input   the list, lines that end in LF, of any length
+ * answer  where the answer lines go. With CG_DONE its first *length bytes are the answer, and the bytes past them stay as they were; with
+ *         CG_SHORT_BUFFER every byte of it is 0
+ * length  becomes the answer's length, and 0 with CG_SHORT_BUFFER
+ *
+ * CG_DONE, also where the list ends at a bad line (the last answer line then is `bad`, tab, its number); CG_SHORT_BUFFER exactly where the whole
+ * answer is longer than the buffer. */
+uint32_t cg_session(const uint8_t *input, size_t input_len, uint8_t *answer, size_t answer_len, size_t *length);
+
 #ifdef __cplusplus
 }
 #endif

@@ -1,4 +1,4 @@
-/* Runs a change list from a file through cg_session and prints the answer: session FILE. Exit status: the session's number. */
+/* Runs a change list from a file through cg_session and prints the answer: session FILE. Exit status: the session's number, and 2 where the file cannot be read. */
 #include "../include/changegraph.h"
 
 #include <stdio.h>
