@@ -9,8 +9,9 @@ ar="$kit/on/$(uname -m)/toolchain/bin/llvm-ar"
 parts="target/archive"
 rm -rf "$parts"
 mkdir -p "$parts"
+# as many at a time as there are processors
+printf '%s\n' $crates | xargs -P "$(getconf _NPROCESSORS_ONLN)" -I CRATE sh -c 'RT_JOBS=1 rt staticlib CRATE >"$0/CRATE.log" 2>&1 || { tail -n 20 "$0/CRATE.log"; exit 1; }' "$parts"
 for crate in $crates; do
-  rt staticlib "$crate" >"$parts/$crate.log" 2>&1 || { tail -n 20 "$parts/$crate.log"; exit 1; }
   mkdir "$parts/$crate"
   (cd "$parts/$crate" && "$ar" x "../../staticlib/lib$crate.a")
   for object in "$parts/$crate"/*; do
