@@ -11,7 +11,7 @@ use lib.Seq.{take-append-seam, length-take-le}
 use borrow.Author.Tests.{le-leb, lt-leb, leb-true}
 use Rattle.paper.specs.Session.{session, lengthIn, bufferIn}
 use Rattle.paper.proofs.Bools.{by-bool}
-use Rattle.bench.specs.Written.{written}
+use Rattle.console.specs.Written.{written}
 
 -- more input
 pub written-none : (n : ℕ) (s : List ℕ) → n < length s → [] ≡ written n s

@@ -1,12 +1,12 @@
 -- The number, the length and the buffer of the session make what the program writes.
 -- Assumes nothing.
 use mathlib.Core.Path.{refl}
-use Rattle.bench.specs.WrittenLaws.{written-none, written-all, written-counts}
+use Rattle.console.specs.WrittenLaws.{written-none, written-all, written-counts}
 use borrow.Author.Needs.{needs}
 use native.Mathlib.Omega.{arith}
 use borrow.Author.Needs.{needs}
-use Rattle.bench.proofs.respond.Statement.{statement}
-use Rattle.bench.proofs.respond.Tie as tie
+use Rattle.console.proofs.respond.Statement.{statement}
+use Rattle.console.proofs.respond.Tie as tie
 
 returns : tie.Need-returns
 returns c = ((omega arith, refl), written-none 65536 _ (c .if1 .taken))
