@@ -1,7 +1,7 @@
 -- Demand 1, of the questions: every answer is one of the paper's numbers, and every number but 0 leaves the buffer and the places as they were.
 -- Assumes nothing.
 use mathlib.Core.Path.{_≡_, refl, sym, ap, _∙_}
-use mathlib.Core.Bool.{Bool, true, false, cond}
+use mathlib.Core.Bool.{Bool, true, false, cond, _&&_}
 use mathlib.Core.List.{List, _++_}
 use Prim.Native.Nat.{ℕ, _*_, _≤_}
 use native.Mathlib.Omega.{arith}
@@ -21,9 +21,18 @@ use Rattle.questions.specs.Clocks.{whole-clock, clock-told, clock-filled}
 use Rattle.op_clock.specs.OpClocks.{whole-op-clock, op-clock-told, op-clock-filled}
 use Rattle.missing.specs.Missing.{missing-hashes, missing-told, missing-filled}
 use Rattle.deps.specs.Deps.{hash-deps, deps-told, deps-filled}
+use Rattle.ancestors.specs.Ancestors.{removed, removed-told, removed-filled}
+use Rattle.hub_clock.specs.Operations.{ClockOf}
+use Rattle.hub_op_clock.specs.Operations.{ClockAt}
+use Rattle.hub_missing.specs.Operations.{MissingFrom}
+use Rattle.hub_owner.specs.Operations.{OwnerOf}
+use Rattle.hub_heads.specs.Operations.{HeadsOf, HeadIndexes}
+use Rattle.hub_hashes.specs.Operations.{IndexToHash, HashForActorSeq}
+use Rattle.hub_deps.specs.Operations.{DepsForHash}
+use Rattle.hub_sizes.specs.Operations.{ActorIds, whichOf}
 use Rattle.asked.specs.Asks.{Reply, gives, refuses, numberOf, toldBy, ofListed, Asks}
 use Rattle.demands.specs.Demands.{stable, outcome-small}
-use Rattle.demands.specs.Questions.{Question, clock-of, clock-at, missing-from, owner-of, heads, head-indexes, index-to-hash, hash-for-actor-seq, deps-for-hash, actor-ids, answerOn, bufferOn, Answers}
+use Rattle.demands.specs.Questions.{Question, clock-of, clock-at, missing-from, owner-of, heads, head-indexes, index-to-hash, hash-for-actor-seq, deps-for-hash, actor-ids, remove-ancestors, answerOn, bufferOn, Answers}
 
 -- a refusal's number is not 0
 abbrev refusedWith : Listed → Type 0
@@ -52,7 +61,7 @@ unfolding node-hash node-hash-filled
 node-kept g k c out = either-kept (ltb k (g .size)) (listed (g .hash k) (length out)) c (filled (g .hash k) out) out (list-kept (g .hash k) out)
 
 kept : (q : Question) (t : Tables) (out : List ℕ) → refusedWith (answerOn q (length out) t) → bufferOn q out t ≡ out
-unfolding clock-told clock-filled op-clock-told op-clock-filled missing-told missing-filled deps-told deps-filled
+unfolding clock-told clock-filled op-clock-told op-clock-filled missing-told missing-filled deps-told deps-filled removed-told removed-filled
 kept (clock-of l) t out = either-kept (whole-list l) (listed (whole-clock t l) (length out)) Malformed (filled (whole-clock t l) out) out (list-kept (whole-clock t l) out)
 kept (clock-at l) t out = either-kept (whole-list l) (listed (whole-op-clock t l) (length out)) Malformed (filled (whole-op-clock t l) out) out (list-kept (whole-op-clock t l) out)
 kept (missing-from have) t out =
@@ -67,6 +76,9 @@ kept (index-to-hash k) t out = node-kept (graph t) k NotFound out
 kept (hash-for-actor-seq a q) t out = node-kept (graph t) (change-at (graph t) a q) NotFound out
 kept (deps-for-hash h) t out = either-kept (one-hash h) (listed (hash-deps (graph t) h) (length out)) Malformed (filled (hash-deps (graph t) h) out) out (list-kept (hash-deps (graph t) h) out)
 kept (actor-ids w) t out = list-kept (actor-list t w) out
+kept (remove-ancestors l hs) t out =
+    let r = removed (graph t) l hs in
+    either-kept (whole-list l && whole-list hs) (listed r (length out)) Malformed (filled r out) out (list-kept r out)
 
 untold : (y : Reply) (told : List ℕ) → (numberOf y ≡ 0 → ⊥) → toldBy y told ≡ told
 untold (gives n) told z = absurd (z refl)
@@ -99,3 +111,36 @@ module _ (q : Question) (out told : List ℕ) (r : ℕ) (out′ told′ : List �
       listed-small NotFound = omega arith
       listed-small NoOwner = omega arith
       listed-small Short = omega arith
+
+-- ---- each question's public promise is this one
+
+module _ (out told : List ℕ) (r : ℕ) (out′ told′ : List ℕ) (t : Tables) where
+  pub is-clock-of : (l : List ℕ) → ClockOf l out told r out′ told′ t → Answers (clock-of l) out told r out′ told′ t
+  is-clock-of l p = p
+
+  pub is-clock-at : (l : List ℕ) → ClockAt l out told r out′ told′ t → Answers (clock-at l) out told r out′ told′ t
+  is-clock-at l p = p
+
+  pub is-missing : (have : List ℕ) → MissingFrom have out told r out′ told′ t → Answers (missing-from have) out told r out′ told′ t
+  is-missing have p = p
+
+  pub is-owner : (a c : ℕ) → OwnerOf a c out told r out′ told′ t → Answers (owner-of a c) out told r out′ told′ t
+  is-owner a c p = p
+
+  pub is-heads : HeadsOf out told r out′ told′ t → Answers heads out told r out′ told′ t
+  is-heads p = p
+
+  pub is-head-indexes : HeadIndexes out told r out′ told′ t → Answers head-indexes out told r out′ told′ t
+  is-head-indexes p = p
+
+  pub is-index-to-hash : (k : ℕ) → IndexToHash k out told r out′ told′ t → Answers (index-to-hash k) out told r out′ told′ t
+  is-index-to-hash k p = p
+
+  pub is-hash-for-actor-seq : (a q : ℕ) → HashForActorSeq a q out told r out′ told′ t → Answers (hash-for-actor-seq a q) out told r out′ told′ t
+  is-hash-for-actor-seq a q p = p
+
+  pub is-deps-for-hash : (h : List ℕ) → DepsForHash h out told r out′ told′ t → Answers (deps-for-hash h) out told r out′ told′ t
+  is-deps-for-hash h p = p
+
+  pub is-actor-ids : (w : ℕ) → ActorIds w out told r out′ told′ t → Answers (actor-ids (whichOf w)) out told r out′ told′ t
+  is-actor-ids w p = p

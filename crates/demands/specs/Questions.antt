@@ -15,6 +15,7 @@ use Rattle.questions.specs.Clocks.{clock-told, clock-filled}
 use Rattle.op_clock.specs.OpClocks.{op-clock-told, op-clock-filled}
 use Rattle.missing.specs.Missing.{missing-told, missing-filled}
 use Rattle.deps.specs.Deps.{deps-told, deps-filled}
+use Rattle.ancestors.specs.Ancestors.{removed-told, removed-filled}
 use Rattle.asked.specs.Asks.{ofListed, Asks}
 
 pub data Question : Type 0 where
@@ -28,6 +29,8 @@ pub data Question : Type 0 where
   hash-for-actor-seq : ℕ → ℕ → Question
   deps-for-hash : List ℕ → Question
   actor-ids : Which → Question
+  -- the listed hashes outside the history of the second list
+  remove-ancestors : List ℕ → List ℕ → Question
 
 -- the answer for a buffer of `room` elements
 abbrev pub answerOn : Question → ℕ → Tables → Listed
@@ -41,6 +44,7 @@ answerOn (index-to-hash k) room t = node-hash (graph t) k NotFound room
 answerOn (hash-for-actor-seq a q) room t = node-hash (graph t) (change-at (graph t) a q) NotFound room
 answerOn (deps-for-hash h) room t = deps-told (graph t) h room
 answerOn (actor-ids w) room t = listed (actor-list t w) room
+answerOn (remove-ancestors l hs) room t = removed-told (graph t) l hs room
 
 -- the buffer afterwards
 abbrev pub bufferOn : Question → List ℕ → Tables → List ℕ
@@ -54,6 +58,7 @@ bufferOn (index-to-hash k) out t = node-hash-filled (graph t) k out
 bufferOn (hash-for-actor-seq a q) out t = node-hash-filled (graph t) (change-at (graph t) a q) out
 bufferOn (deps-for-hash h) out t = deps-filled (graph t) h out
 bufferOn (actor-ids w) out t = filled (actor-list t w) out
+bufferOn (remove-ancestors l hs) out t = removed-filled (graph t) l hs out
 
 -- the promise: the question answers r, and leaves the buffer out′ and the places told′
 abbrev pub Answers : Question → List ℕ → List ℕ → ℕ → List ℕ → List ℕ → Tables → Type 0

@@ -1,100 +1,209 @@
--- Demand 1, of the queue: every number but 0 leaves batch, queue, answer tables and places as they were. One law over all operations whose promise is a number
--- (`Numbered`), and for each operation that its refusals change nothing.
+-- A refused operation on a batch or a queue changes nothing: by its promise alone, every number but 0 leaves all lent memory as it was. And every number is one of the paper's.
 -- Assumes nothing.
-use mathlib.Core.Path.{_≡_, refl, sym, ap, subst, _∙_}
+use mathlib.Core.Path.{_≡_, refl, _∙_}
 use mathlib.Core.List.{List}
-use Prim.Native.Nat.{ℕ}
-use Rattle.places.specs.Places.{Numbered}
-use Rattle.waiting.specs.Valid.{Same, OpenedTo, numberOf as openedNumber}
+use Prim.Native.Nat.{ℕ, _≤_}
+use native.Mathlib.Omega.{arith}
+use lib.Dec.{leb}
+use borrow.Author.Tests.{leb-true, leb-false}
+use Rattle.paper.proofs.Bools.{by-bool}
+use Rattle.tables.specs.Tables.{Tables, changes}
+use Rattle.waiting.specs.Valid.{Same, OpenedTo, numberOf as numberOfOpened}
 use Rattle.waiting.specs.declared.Opened.{Opened}
-use Rattle.waiting.specs.declared.Opened.the-variants as opened
-use Rattle.batch.specs.Push.{PushedTo, numberOf as pushedNumber}
+use Rattle.waiting.specs.declared.Opened.the-variants.{Done as OpenedDone, NotValid as OpenedNot}
+use Rattle.batch.specs.Push.{PushedTo, numberOf as numberOfPushed}
 use Rattle.batch.specs.declared.Pushed.{Pushed}
 use Rattle.batch.specs.declared.Pushed.the-variants as pushed
-use Rattle.queue.specs.Hand.{HandedTo, NotHanded, numberOf as handedNumber}
+use Rattle.queue.specs.Hand.{NotHanded, HandedTo, numberOf as numberOfHanded}
 use Rattle.queue.specs.declared.Handed.{Handed}
 use Rattle.queue.specs.declared.Handed.the-variants as handed
-use Rattle.release.specs.Release.{ReleasedTo, Unchanged, numberOf as releasedNumber}
-use Rattle.release.specs.declared.Released.{Released}
-use Rattle.release.specs.declared.Released.the-variants as released
-use Rattle.branch.specs.Branch.{RemovedTo, numberOf as removedNumber}
+use Rattle.queue.specs.Asked.{ListedTo, numberOf as numberOfAsked, numberOfList}
+use Rattle.queue.specs.declared.Asked.{Asked}
+use Rattle.queue.specs.declared.Asked.the-variants as asked
+use Rattle.queue.specs.declared.Listed.{Listed}
+use Rattle.queue.specs.declared.Listed.the-variants as listed
+use Rattle.branch.specs.Branch.{RemovedTo, numberOf as numberOfRemoved}
 use Rattle.branch.specs.declared.Removed.{Removed}
 use Rattle.branch.specs.declared.Removed.the-variants as removed
+use Rattle.release.specs.Release.{Unchanged, ReleasedTo, numberOf as numberOfReleased}
+use Rattle.release.specs.declared.Released.{Released}
+use Rattle.release.specs.declared.Released.the-variants as released
+use Rattle.places.specs.Places.{Numbered}
+use Rattle.hub_queue.specs.Told.{yesIn, countIn}
+use Rattle.hub_release.specs.Operations.{Stock, Left, Freed, FreedBy}
 use Rattle.demands.specs.Demands.{stable}
 
--- what cannot fail holds
-abbrev pub Stable : Type 0 → Type 0
-Stable P = ((P → ⊥) → ⊥) → P
+-- where every answer but those of number 0 leaves a list as it was, so does the operation, whether what is lent is valid or not
+pub numbered-keeps : {A : Type 0} {number : A → ℕ} {held : Type 0} {good bad : A} {left : A → Type 0} {r : ℕ} (xs′ xs : List ℕ)
+    → ((a : A) → (number a ≡ 0 → ⊥) → left a → xs′ ≡ xs) → Numbered number held good bad left r → (r ≡ 0 → ⊥) → xs′ ≡ xs
+numbered-keeps {A} {number} {held} {good} {bad} {left} {r} xs′ xs kept p n = stable xs′ xs not-changed
+  where
+    not-changed : (xs′ ≡ xs → ⊥) → ⊥
+    not-changed d =
+        let u = p .unmet (λ v. (let m = p .met v in d (kept good (λ z. n (m .0 ∙ z)) (m .1)))) in
+        d (kept bad (λ z. n (u .0 ∙ z)) (u .1))
 
--- a refusal leaves P, whether what was lent is valid or not
-pub numbered-keeps : {A : Type 0} (number : A → ℕ) {held : Type 0} {good bad : A} (left : A → Type 0) (r : ℕ) {P : Type 0} → Stable P
-    → ((a : A) → (number a ≡ 0 → ⊥) → left a → P) → Numbered number held good bad left r → (r ≡ 0 → ⊥) → P
-numbered-keeps number {held} {good} {bad} left r whole each p n =
-    whole
-    (λ d.
-    let invalid : held → ⊥ = λ h. (let m = p .met h in d (each good (λ z. n (m .0 ∙ z)) (m .1))) in
-    let u = p .unmet invalid in
-    d (each bad (λ z. n (u .0 ∙ z)) (u .1)))
+-- and where every answer's number is one of the paper's, so is the operation's
+pub numbered-answers : {A : Type 0} {number : A → ℕ} {held : Type 0} {good bad : A} {left : A → Type 0} {r : ℕ}
+    → ((a : A) → number a ≤ 18) → Numbered number held good bad left r → r ≤ 18
+numbered-answers {A} {number} {held} {good} {bad} {left} {r} small p =
+    by-bool (leb r 18) (leb-true r 18)
+    (λ f.
+    let large = leb-false r 18 f in
+    let u = p .unmet (λ v. (let m = p .met v in let b = small good in omega (arith, m .0))) in
+    let b = small bad in
+    absurd (omega (arith, u .0)))
 
-pub list-stable : (xs ys : List ℕ) → Stable (xs ≡ ys)
-list-stable = stable
+-- each answer's number is one of the paper's
+pub opened-small : (a : Opened) → numberOfOpened a ≤ 18
+opened-small OpenedDone = omega arith
+opened-small OpenedNot = omega arith
 
-pub same-stable : (hs ns ds cs hs′ ns′ ds′ cs′ : List ℕ) → Stable (Same hs ns ds cs hs′ ns′ ds′ cs′)
-same-stable hs ns ds cs hs′ ns′ ds′ cs′ n =
-    record {
-      hashes = stable hs′ hs (λ d. n (λ s. d (s .hashes)));
-      numbers = stable ns′ ns (λ d. n (λ s. d (s .numbers)));
-      deps = stable ds′ ds (λ d. n (λ s. d (s .deps)));
-      count = stable cs′ cs (λ d. n (λ s. d (s .count)));
-    }
+pub pushed-small : (a : Pushed) → numberOfPushed a ≤ 18
+pushed-small pushed.Done = omega arith
+pushed-small pushed.NotValid = omega arith
+pushed-small pushed.Malformed = omega arith
+pushed-small pushed.InBatch = omega arith
+pushed-small pushed.Waits = omega arith
+pushed-small pushed.TooMany = omega arith
+pushed-small pushed.Full = omega arith
 
-pub not-handed-stable : (hs ns ds cs bcs hs′ ns′ ds′ cs′ bcs′ : List ℕ) → Stable (NotHanded hs ns ds cs bcs hs′ ns′ ds′ cs′ bcs′)
-not-handed-stable hs ns ds cs bcs hs′ ns′ ds′ cs′ bcs′ n =
-    record { queue = same-stable hs ns ds cs hs′ ns′ ds′ cs′ (λ d. n (λ s. d (s .queue))); batch = stable bcs′ bcs (λ d. n (λ s. d (s .batch))) }
+pub handed-small : (a : Handed) → numberOfHanded a ≤ 18
+handed-small handed.Done = omega arith
+handed-small handed.NotValid = omega arith
+handed-small handed.Clash = omega arith
+handed-small handed.Full = omega arith
 
-pub unchanged-stable : (hs ns ds cs th tn td hs′ ns′ ds′ cs′ th′ tn′ td′ : List ℕ) → Stable (Unchanged hs ns ds cs th tn td hs′ ns′ ds′ cs′ th′ tn′ td′)
-unchanged-stable hs ns ds cs th tn td hs′ ns′ ds′ cs′ th′ tn′ td′ n =
-    record {
-      queue = same-stable hs ns ds cs hs′ ns′ ds′ cs′ (λ d. n (λ s. d (s .queue)));
-      hashes = stable th′ th (λ d. n (λ s. d (s .hashes)));
-      numbers = stable tn′ tn (λ d. n (λ s. d (s .numbers)));
-      deps = stable td′ td (λ d. n (λ s. d (s .deps)));
-    }
+pub removed-small : (a : Removed) → numberOfRemoved a ≤ 18
+removed-small removed.Done = omega arith
+removed-small removed.NotValid = omega arith
 
--- ---- the refusals of each operation
+pub asked-small : (a : Asked) → numberOfAsked a ≤ 18
+asked-small asked.Yes = omega arith
+asked-small asked.No = omega arith
+asked-small asked.NotValid = omega arith
+asked-small asked.Malformed = omega arith
 
-pub opened-keeps : (cs cs′ : List ℕ) (a : Opened) → (openedNumber a ≡ 0 → ⊥) → OpenedTo a cs cs′ → cs′ ≡ cs
-unfolding OpenedTo
-opened-keeps cs cs′ opened.Done n l = absurd (n refl)
-opened-keeps cs cs′ opened.NotValid n l = l
+pub listed-small : (a : Listed) → numberOfList a ≤ 18
+listed-small (listed.All n) = omega arith
+listed-small listed.Short = omega arith
+listed-small listed.NotValid = omega arith
 
-module _ (hs ns ds cs hs′ ns′ ds′ cs′ : List ℕ) where
-  pub pushed-keeps : (h : List ℕ) (key seq top ops : ℕ) (needs : List ℕ) (a : Pushed) → (pushedNumber a ≡ 0 → ⊥) → PushedTo a hs ns ds cs h key seq top ops needs hs′ ns′ ds′ cs′
-      → Same hs ns ds cs hs′ ns′ ds′ cs′
-  unfolding PushedTo
-  pushed-keeps h key seq top ops needs pushed.Done n l = absurd (n refl)
-  pushed-keeps h key seq top ops needs pushed.NotValid n l = l
-  pushed-keeps h key seq top ops needs pushed.Malformed n l = l
-  pushed-keeps h key seq top ops needs pushed.InBatch n l = l
-  pushed-keeps h key seq top ops needs pushed.Waits n l = l
-  pushed-keeps h key seq top ops needs pushed.TooMany n l = l
-  pushed-keeps h key seq top ops needs pushed.Full n l = l
+pub released-small : (a : Released) → numberOfReleased a ≤ 18
+released-small (released.All n) = omega arith
+released-small released.Short = omega arith
+released-small released.NotValid = omega arith
 
-  pub handed-keeps : (bhs bns bds bcs bcs′ : List ℕ) (a : Handed) → (handedNumber a ≡ 0 → ⊥) → HandedTo a hs ns ds cs bhs bns bds bcs hs′ ns′ ds′ cs′ bcs′ → NotHanded hs ns ds cs bcs hs′ ns′ ds′ cs′ bcs′
-  unfolding HandedTo
-  handed-keeps bhs bns bds bcs bcs′ handed.Done n l = absurd (n refl)
-  handed-keeps bhs bns bds bcs bcs′ handed.NotValid n l = l
-  handed-keeps bhs bns bds bcs bcs′ handed.Clash n l = l
-  handed-keeps bhs bns bds bcs bcs′ handed.Full n l = l
+-- ---- opening
 
-  pub released-keeps : (gs : List ℕ) (k : ℕ) (th tn td th′ tn′ td′ : List ℕ) (a : Released) → (releasedNumber a ≡ 0 → ⊥)
-      → ReleasedTo a gs k hs ns ds cs th tn td hs′ ns′ ds′ cs′ th′ tn′ td′ → Unchanged hs ns ds cs th tn td hs′ ns′ ds′ cs′ th′ tn′ td′
+module _ {held : Type 0} {good bad : Opened} {cs cs′ : List ℕ} {r : ℕ} (p : Numbered numberOfOpened held good bad (λ (a : Opened). OpenedTo a cs cs′) r) where
+  kept-opened : (a : Opened) → (numberOfOpened a ≡ 0 → ⊥) → OpenedTo a cs cs′ → cs′ ≡ cs
+  unfolding OpenedTo
+  kept-opened OpenedDone n l = absurd (n refl)
+  kept-opened OpenedNot n l = l
+
+  pub open-keeps : (r ≡ 0 → ⊥) → cs′ ≡ cs
+  open-keeps = numbered-keeps cs′ cs kept-opened p
+
+-- ---- pushing, handing over and dropping
+
+module _ {hs ns ds cs hs′ ns′ ds′ cs′ : List ℕ} where
+  -- where every refusal leaves the four tables, so does the operation
+  four : {A : Type 0} {number : A → ℕ} {held : Type 0} {good bad : A} {left : A → Type 0} {r : ℕ}
+      → ((a : A) → (number a ≡ 0 → ⊥) → left a → Same hs ns ds cs hs′ ns′ ds′ cs′) → Numbered number held good bad left r → (r ≡ 0 → ⊥) → Same hs ns ds cs hs′ ns′ ds′ cs′
+  four kept p n = record {
+    hashes = numbered-keeps hs′ hs (λ a z l. kept a z l .hashes) p n;
+    numbers = numbered-keeps ns′ ns (λ a z l. kept a z l .numbers) p n;
+    deps = numbered-keeps ds′ ds (λ a z l. kept a z l .deps) p n;
+    count = numbered-keeps cs′ cs (λ a z l. kept a z l .count) p n;
+  }
+
+  module _ (h : List ℕ) (key seq top ops : ℕ) (needs : List ℕ) where
+    kept-pushed : (a : Pushed) → (numberOfPushed a ≡ 0 → ⊥) → PushedTo a hs ns ds cs h key seq top ops needs hs′ ns′ ds′ cs′ → Same hs ns ds cs hs′ ns′ ds′ cs′
+    unfolding PushedTo
+    kept-pushed pushed.Done n l = absurd (n refl)
+    kept-pushed pushed.NotValid n l = l
+    kept-pushed pushed.Malformed n l = l
+    kept-pushed pushed.InBatch n l = l
+    kept-pushed pushed.Waits n l = l
+    kept-pushed pushed.TooMany n l = l
+    kept-pushed pushed.Full n l = l
+
+    pub push-keeps : {held : Type 0} {good bad : Pushed} {r : ℕ} → Numbered numberOfPushed held good bad (λ (a : Pushed). PushedTo a hs ns ds cs h key seq top ops needs hs′ ns′ ds′ cs′) r → (r ≡ 0 → ⊥) → Same hs ns ds cs hs′ ns′ ds′ cs′
+    push-keeps p = four kept-pushed p
+
+  module _ (bhs bns bds : List ℕ) {bcs bcs′ : List ℕ} where
+    kept-handed : (a : Handed) → (numberOfHanded a ≡ 0 → ⊥) → HandedTo a hs ns ds cs bhs bns bds bcs hs′ ns′ ds′ cs′ bcs′ → NotHanded hs ns ds cs bcs hs′ ns′ ds′ cs′ bcs′
+    unfolding HandedTo
+    kept-handed handed.Done n l = absurd (n refl)
+    kept-handed handed.NotValid n l = l
+    kept-handed handed.Clash n l = l
+    kept-handed handed.Full n l = l
+
+    pub hand-over-keeps : {held : Type 0} {good bad : Handed} {r : ℕ} → Numbered numberOfHanded held good bad (λ (a : Handed). HandedTo a hs ns ds cs bhs bns bds bcs hs′ ns′ ds′ cs′ bcs′) r → (r ≡ 0 → ⊥) → NotHanded hs ns ds cs bcs hs′ ns′ ds′ cs′ bcs′
+    hand-over-keeps p n = record { queue = four (λ a z l. kept-handed a z l .queue) p n; batch = numbered-keeps bcs′ bcs (λ a z l. kept-handed a z l .batch) p n }
+
+  module _ (key from : ℕ) where
+    kept-removed : (a : Removed) → (numberOfRemoved a ≡ 0 → ⊥) → RemovedTo a hs ns ds cs key from hs′ ns′ ds′ cs′ → Same hs ns ds cs hs′ ns′ ds′ cs′
+    unfolding RemovedTo
+    kept-removed removed.Done n l = absurd (n refl)
+    kept-removed removed.NotValid n l = l
+
+    pub branch-keeps : {held : Type 0} {good bad : Removed} {r : ℕ} → Numbered numberOfRemoved held good bad (λ (a : Removed). RemovedTo a hs ns ds cs key from hs′ ns′ ds′ cs′) r → (r ≡ 0 → ⊥) → Same hs ns ds cs hs′ ns′ ds′ cs′
+    branch-keeps p = four kept-removed p
+
+-- ---- questions
+
+module _ {told told′ : List ℕ} where
+  kept-asked : (a : Asked) → (numberOfAsked a ≡ 0 → ⊥) → told′ ≡ yesIn a told → told′ ≡ told
+  kept-asked asked.Yes n l = absurd (n refl)
+  kept-asked asked.No n l = absurd (n refl)
+  kept-asked asked.NotValid n l = l
+  kept-asked asked.Malformed n l = l
+
+  pub question-keeps : {held : Type 0} {good bad : Asked} {r : ℕ} → Numbered numberOfAsked held good bad (λ (a : Asked). told′ ≡ yesIn a told) r → (r ≡ 0 → ⊥) → told′ ≡ told
+  question-keeps p = numbered-keeps told′ told kept-asked p
+
+  module _ (hs ns ds : List ℕ) {th tn td th′ tn′ td′ : List ℕ} where
+    kept-listed : (a : Listed) → (numberOfList a ≡ 0 → ⊥) → ListedTo a hs ns ds th tn td th′ tn′ td′ × (told′ ≡ countIn a told) → ((th′ ≡ th) × (tn′ ≡ tn) × (td′ ≡ td)) × (told′ ≡ told)
+    unfolding ListedTo
+    kept-listed (listed.All m) n l = absurd (n refl)
+    kept-listed listed.Short n l = l
+    kept-listed listed.NotValid n l = l
+
+    pub iter-keeps : {held : Type 0} {good bad : Listed} {r : ℕ} → Numbered numberOfList held good bad (λ (a : Listed). ListedTo a hs ns ds th tn td th′ tn′ td′ × (told′ ≡ countIn a told)) r → (r ≡ 0 → ⊥)
+        → ((th′ ≡ th) × (tn′ ≡ tn) × (td′ ≡ td)) × (told′ ≡ told)
+    iter-keeps p n = (
+      (numbered-keeps th′ th (λ a z l. kept-listed a z l .0 .0) p n, numbered-keeps tn′ tn (λ a z l. kept-listed a z l .0 .1) p n, numbered-keeps td′ td (λ a z l. kept-listed a z l .0 .2) p n),
+      numbered-keeps told′ told (λ a z l. kept-listed a z l .1) p n,
+    )
+
+-- ---- releasing
+
+-- all memory that a release may change is as it was
+abbrev pub Held : Stock → Stock → Type 0
+Held m m′ = Unchanged (m .hashes) (m .numbers) (m .deps) (m .count) (m .thashes) (m .tnumbers) (m .tdeps) (m′ .hashes) (m′ .numbers) (m′ .deps) (m′ .count) (m′ .thashes) (m′ .tnumbers) (m′ .tdeps) × (m′ .told ≡ m .told)
+
+module _ (gs : List ℕ) (k : ℕ) (m m′ : Stock) where
+  kept-released : (a : Released) → (numberOfReleased a ≡ 0 → ⊥) → Left gs k m m′ a → Held m m′
   unfolding ReleasedTo
-  released-keeps gs k th tn td th′ tn′ td′ (released.All r) n l = absurd (n refl)
-  released-keeps gs k th tn td th′ tn′ td′ released.Short n l = l
-  released-keeps gs k th tn td th′ tn′ td′ released.NotValid n l = l
+  kept-released (released.All i) n l = absurd (n refl)
+  kept-released released.Short n l = l
+  kept-released released.NotValid n l = l
 
-  pub removed-keeps : (key from : ℕ) (a : Removed) → (removedNumber a ≡ 0 → ⊥) → RemovedTo a hs ns ds cs key from hs′ ns′ ds′ cs′ → Same hs ns ds cs hs′ ns′ ds′ cs′
-  unfolding RemovedTo
-  removed-keeps key from removed.Done n l = absurd (n refl)
-  removed-keeps key from removed.NotValid n l = l
+  release-held : {held : Type 0} {good bad : Released} {r : ℕ} → Numbered numberOfReleased held good bad (Left gs k m m′) r → (r ≡ 0 → ⊥) → Held m m′
+  release-held p n = (
+    record {
+      queue = four (λ a z l. kept-released a z l .0 .queue) p n;
+      hashes = numbered-keeps (m′ .thashes) (m .thashes) (λ a z l. kept-released a z l .0 .hashes) p n;
+      numbers = numbered-keeps (m′ .tnumbers) (m .tnumbers) (λ a z l. kept-released a z l .0 .numbers) p n;
+      deps = numbered-keeps (m′ .tdeps) (m .tdeps) (λ a z l. kept-released a z l .0 .deps) p n;
+    },
+    numbered-keeps (m′ .told) (m .told) (λ a z l. kept-released a z l .1) p n,
+  )
+
+  pub queue-release-keeps : {r : ℕ} → Freed gs k m r m′ → (r ≡ 0 → ⊥) → Held m m′
+  queue-release-keeps p = release-held p
+
+pub release-keeps : (m m′ : Stock) {r : ℕ} (t : Tables) → FreedBy m r m′ t → (r ≡ 0 → ⊥) → Held m m′
+release-keeps m m′ t p = release-held (t .hashes) (changes t) m m′ p
