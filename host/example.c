@@ -29,7 +29,7 @@ static const uint8_t *hash(char letter) {
 }
 
 static void add(char letter, uint64_t device, uint64_t sequence, uint64_t max_op, const char *on) {
-  uint8_t dependencies[8 * CG_HASH];
+  uint8_t dependencies[8 * CG_HASH] = {0};
   uint64_t unknown = 0;
   size_t n = strlen(on);
   for (size_t i = 0; i < n; i++) {
@@ -45,7 +45,7 @@ static void add(char letter, uint64_t device, uint64_t sequence, uint64_t max_op
 
 /* What a tablet that has these changes is missing, in the order in which it can take them. */
 static void missing(const char *tablet, const char *has) {
-  uint8_t have[8 * CG_HASH];
+  uint8_t have[8 * CG_HASH] = {0};
   uint64_t bytes = 0;
   size_t n = strlen(has);
   for (size_t i = 0; i < n; i++) {

@@ -36,7 +36,7 @@ typedef struct Waiting {
 } Waiting;
 
 static Waiting queue, batch, given;
-static Block blocks[16];
+static Block blocks[5 + 3 * 4];
 static int block_count = 0;
 
 static void *lend(size_t size) {

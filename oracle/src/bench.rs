@@ -186,6 +186,30 @@ macro_rules! public {
     };
 }
 
+/// Copies made ahead of the measured call, and kept after it; a run that has to make new ones is not the fastest.
+struct Ready<T: Clone> {
+    from: T,
+    made: Vec<T>,
+    used: Vec<T>,
+}
+
+impl<T: Clone> Ready<T> {
+    fn new(from: T) -> Ready<T> {
+        let made = vec![from.clone(); 8];
+        Ready { from, made, used: Vec::with_capacity(8) }
+    }
+
+    fn next(&mut self) -> &mut T {
+        if self.made.is_empty() {
+            self.used.clear();
+            self.made = vec![self.from.clone(); 8];
+        }
+        let next = self.made.pop().unwrap();
+        self.used.push(next);
+        self.used.last_mut().unwrap()
+    }
+}
+
 /// What is measured. Nothing is inlined into it, so that a tool can find it by its name.
 #[inline(never)]
 fn measured(f: &mut dyn FnMut() -> u64) -> u64 {
@@ -260,31 +284,18 @@ fn adding_one(n: usize) -> Case {
     grown.pack();
     l = grown;
     drop(p);
-    let kept = l.clone();
-    let (mut core, mut all_of_it) = (l.clone(), l);
-    let kept2 = kept.clone();
-    // the tables are put back by their small parts: node flags and counts
-    let back = |l: &mut Lent, k: &Lent| {
-        l.nodes.copy_from_slice(&k.nodes);
-        l.counts.copy_from_slice(&k.counts);
-    };
+    let (mut graphs, mut core, mut whole) = (Ready::new(g), Ready::new(l.clone()), Ready::new(l));
     Case {
         name: format!("add one to {}", n - 1),
         operations: 1,
         sides: [
             Some(Box::new(move || {
-                let mut g = g.clone();
+                let g = graphs.next();
                 g.add_change(&c, last.actor).unwrap();
                 g.len() as u64
             })),
-            Some(Box::new(move || {
-                back(&mut core, &kept);
-                core.add(&last2, &d) as u64
-            })),
-            Some(Box::new(move || {
-                back(&mut all_of_it, &kept2);
-                all_of_it.add_public(&all[n - 1], &d2) as u64
-            })),
+            Some(Box::new(move || core.next().add(&last2, &d) as u64)),
+            Some(Box::new(move || whole.next().add_public(&all[n - 1], &d2) as u64)),
         ],
     }
 }
@@ -308,8 +319,8 @@ fn asking(shape: &'static str, n: usize) -> Vec<Case> {
         });
     }
     // 40 tablets, each so many changes behind
-    for behind in [0usize, 40, 400, n] {
-        let at = |t: usize| (n - 1).saturating_sub(behind).saturating_sub(t);
+    for behind in [0usize, 40, 400, n].into_iter().filter(|b| *b <= n) {
+        let at = |t: usize| (n - 1).saturating_sub(behind + t);
         let haves: Vec<ChangeHash> = (0..40).map(|t| if behind == n { ChangeHash([1; 32]) } else { ChangeHash(p[at(t)].hash) }).collect();
         let (g, l, l2, h2, h3) = (g.clone(), l.clone(), l.clone(), haves.clone(), haves.clone());
         let (mut out, mut out2, mut told) = (vec![0u8; 32 * N], vec![0u8; 32 * N], [0u64; 1]);
@@ -348,6 +359,7 @@ fn asking(shape: &'static str, n: usize) -> Vec<Case> {
         });
     }
     let mut told = [0u64; 1];
+    // cg_len answers from the counts, so its cost is the check's
     cases.push(Case {
         name: format!("the check of what is lent, of {n}, {shape}"),
         operations: 1,
@@ -377,24 +389,19 @@ fn releasing() -> Case {
             assert_eq!(r, 0);
         }
     }
-    let (h0, n0, d0) = (h.clone(), n.clone(), d.clone());
     let (mut th, mut tn, mut td, mut told) = (h.clone(), n.clone(), d.clone(), [0u64; 1]);
+    let known = [0u8; 0];
+    let (mut queues, mut tables) = (Ready::new(q), Ready::new((h, n, d, c)));
     Case {
         name: format!("release of {Q}"),
         operations: Q as u64,
         sides: [
-            Some(Box::new(move || {
-                let mut q = q.clone();
-                q.pop_topo_sorted_ready(&g).len() as u64
-            })),
+            Some(Box::new(move || queues.next().pop_topo_sorted_ready(&g).len() as u64)),
             None,
             Some(Box::new(move || {
-                h.copy_from_slice(&h0);
-                n.copy_from_slice(&n0);
-                d.copy_from_slice(&d0);
-                c[0] = Q as u32;
+                let (h, n, d, c) = tables.next();
                 let r = unsafe {
-                    cg_queue_release(h0.as_ptr(), 0, 0, h.as_mut_ptr(), h.len(), n.as_mut_ptr(), n.len(), d.as_mut_ptr(), d.len(), c.as_mut_ptr(), 1, th.as_mut_ptr(), th.len(), tn.as_mut_ptr(), tn.len(), td.as_mut_ptr(), td.len(), told.as_mut_ptr(), 1)
+                    cg_queue_release(known.as_ptr(), 0, 0, h.as_mut_ptr(), h.len(), n.as_mut_ptr(), n.len(), d.as_mut_ptr(), d.len(), c.as_mut_ptr(), 1, th.as_mut_ptr(), th.len(), tn.as_mut_ptr(), tn.len(), td.as_mut_ptr(), td.len(), told.as_mut_ptr(), 1)
                 };
                 assert_eq!((r, told[0]), (0, Q as u64));
                 told[0]
