@@ -71,6 +71,12 @@ static void *run_head_indexes(void *unused) {
   return NULL;
 }
 
+static void *run_remove_ancestors(void *unused) {
+  (void)unused;
+  number = cg_remove_ancestors(GRAPH(&g), g.hashes, 32 * 64, last, 32, answer, sizeof answer, told, 1);
+  return NULL;
+}
+
 static void *run_owner(void *unused) {
   (void)unused;
   number = cg_owner(GRAPH(&g), 63, 1, answer, 32, told, 1);
@@ -143,6 +149,7 @@ int main(void) {
   measure("cg_clock_of", run_clock_of);
   measure("cg_clock_at", run_clock_at);
   measure("cg_head_indexes", run_head_indexes);
+  measure("cg_remove_ancestors", run_remove_ancestors);
   measure("cg_owner, 14", run_owner);
   measure("cg_add, caching through the most levels", run_add);
   int cached = 0;

@@ -1,37 +1,21 @@
 -- Lists of hashes as bytes: what was listed is read back from the buffer.
 -- Assumes nothing.
 use mathlib.Core.Path.{_≡_, refl, sym, ap, ap₂, _∙_}
-use mathlib.Core.List.{List, [], _∷_, _++_, append-assoc, append-nil}
-use Prim.Native.Nat.{ℕ, suc, _+_, _*_, _/_, _≤_}
+use mathlib.Core.List.{List, [], _++_, append-nil}
+use Prim.Native.Nat.{ℕ, _+_, _*_, _/_, _≤_}
 use native.Mathlib.Omega.{arith}
-use lib.Dec.{eqb}
-use lib.ListN.{length, take, drop, length-append}
-use lib.Seq.{take-at, drop-at}
-use borrow.Author.Tests.{eqb-true}
-use Rattle.paper.specs.Lists.{hashAt, hashes-from, hashes-of, every}
+use lib.ListN.{length, drop, length-append}
+use Rattle.paper.specs.Lists.{hashes-from, hashes-of}
 use Rattle.paper.specs.Text.{flat}
-use Rattle.paper.proofs.Bools.{and-fst, and-snd}
 use Rattle.answers.specs.Answers.{listed, filled}
 use Rattle.answers.specs.AnswerLaws.{listed-done, filled-done}
-use Rattle.answers.specs.Entering.{Wide, flat-long}
+use Rattle.answers.specs.Entering.{Wide, flat-long, hashes-in}
 use Rattle.step.specs.Lines.{countOf}
-
--- behind i hashes
-back-from : (p : List ℕ) (l : List (List ℕ)) (r : List ℕ) (i : ℕ) → length p ≡ 32 * i → Wide l → hashes-from (p ++ (flat l ++ r)) (length l) i ≡ l
-unfolding hashes-from flat hashAt every
-back-from p [] r i e w = refl
-back-from p (h ∷ l) r i e w =
-    let a = eqb-true (length h) 32 (and-fst (eqb (length h) 32) (every (λ h. eqb (length h) 32) l) w) in
-    let b = and-snd (eqb (length h) 32) (every (λ h. eqb (length h) 32) l) w in
-    let q : length (p ++ h) ≡ 32 * suc i = (let n = length-append p h in omega arith) in
-    let s : p ++ ((h ++ flat l) ++ r) ≡ (p ++ h) ++ (flat l ++ r) = ap (λ (x : List ℕ). p ++ x) (append-assoc h (flat l) r) ∙ sym (append-assoc p h (flat l ++ r)) in
-    let x : take 32 (drop (32 * i) (p ++ ((h ++ flat l) ++ r))) ≡ h = ap (take 32) (drop-at p ((h ++ flat l) ++ r) (32 * i) e) ∙ ap (take 32) (append-assoc h (flat l) r) ∙ take-at h (flat l ++ r) 32 a in
-    ap₂ (λ (y : List ℕ) (z : List (List ℕ)). y ∷ z) x (ap (λ (y : List ℕ). hashes-from y (length l) (suc i)) s ∙ back-from (p ++ h) l r (suc i) q b)
 
 module _ (l : List (List ℕ)) (w : Wide l) where
   -- the first hashes of a buffer that starts with the list
   pub read-back : (r : List ℕ) → hashes-from (flat l ++ r) (length l) 0 ≡ l
-  read-back r = back-from [] l r 0 refl w
+  read-back r = hashes-in [] l r 0 refl w
 
   how-many : length (flat l) / 32 ≡ length l
   how-many = let n = flat-long l w in omega arith
