@@ -7,20 +7,20 @@ use Prim.Native.Nat.{ℕ, zero, suc, _+_, _-_, _/_, _≤_, _<_}
 use native.Mathlib.Numerals.{add-one}
 use native.Mathlib.Omega.{arith}
 use lib.Dec.{eqb, ltb}
-use lib.ListN.{length, take, drop, getD, set, length-set, replicate}
+use lib.ListN.{length, take, drop, getD, set, length-set, replicate, length-replicate}
 use lib.Seq.{getD-set-same, getD-set-other, take-at}
 use borrow.Author.Tests.{eqb-true, eqb-false, eq-eqb, lt-ltb, ltb-true}
 use Rattle.paper.specs.Lists.{mem, pick, some-below, hashAt, hashes-from, hashes-of, each-below}
 use Rattle.paper.specs.Graph.{Graph, node, nodes, known, hist, clock, Valid}
-use Rattle.paper.proofs.Bools.{by-bool, to-false, same-bool, and-both, and-fst, and-snd, mem-append, mem-nil, mem-cons, mem-pick, pick-mem, mem-getD}
-use Rattle.paper.proofs.History.{hist-start}
-use Rattle.paper.proofs.Clock.{hist-mono}
+use Rattle.paper.proofs.Bools.{by-bool, to-false, not-both, same-bool, and-both, and-fst, and-snd, mem-append, mem-nil, mem-cons, mem-pick, pick-mem, mem-getD}
+use Rattle.paper.proofs.History.{hist-start, hist-least}
+use Rattle.paper.proofs.Clock.{hist-mono, clock-least}
 use Rattle.paper.proofs.Walk.{clock-mono}
 use Rattle.walk.specs.Marks.{marked}
 use Rattle.walk.specs.Whole.{cleared}
 use Rattle.answers.specs.SlotLaws.{hashes-split}
 use Rattle.paper.proofs.Count.{pick-length, tally-most}
-use Rattle.paper.proofs.Each.{each-ext}
+use Rattle.paper.proofs.Each.{each-ext, to-each}
 use Rattle.answers.specs.AnswerLaws.{Holds, over-front}
 use Rattle.questions.specs.Clocks.{clock-entries}
 use Rattle.questions.specs.Known.{named-node, KnownMarks}
@@ -172,3 +172,19 @@ unfolding clock-entries
 starts-clock g v bytes {out₀} {out} {c} h w =
     ap (λ (s : List ℕ). each-below (clock g s) w) (starts-are h)
     ∙ each-ext (clock g (pick (known g (nodes g (hashes-of bytes))) (g .size))) (clock g (nodes g (hashes-of bytes))) w (λ a l. clock-knowns g v (nodes g (hashes-of bytes)) a)
+
+-- ---- an empty list: nothing is in its history
+
+nothing-in : (g : Graph) (k : ℕ) → hist g [] k ≡ true → ⊥
+nothing-in g = hist-least g (λ (k : ℕ). ⊥) (λ k j p d. p) [] (λ k l e. not-both e (mem-nil k))
+
+empty-nodes : (g : Graph) (bytes : List ℕ) → length bytes ≡ 0 → nodes g (hashes-of bytes) ≡ []
+unfolding nodes hashes-of hashes-from
+empty-nodes g bytes e = rw e
+
+pub empty-clock : (g : Graph) → Valid g → (bytes : List ℕ) → length bytes ≡ 0 → (n : ℕ) → replicate n 0 ≡ each-below (clock-entries g bytes) n
+unfolding clock-entries
+empty-clock g v bytes e n =
+    rw (empty-nodes g bytes e)
+    (to-each (clock g []) n (replicate n 0) (length-replicate {A = ℕ} n 0)
+    (λ i l. let z = clock-least g v [] i 0 (λ k h q. absurd (nothing-in g k h)) in cleared n i ∙ omega arith))

@@ -88,8 +88,8 @@ fn starts_of(
     collect(&marks, n, out)
 }
 
-// The clock of the listed hashes, into `clock`.
-pub fn clock_into(
+// The clock of the listed hashes by a walk from their nodes, into `clock`.
+fn walk_into(
     hashes: &[u8],
     nodes: &[u32],
     targets: &[u32],
@@ -124,6 +124,28 @@ pub fn clock_into(
         &starts[0..c],
         clock,
     );
+}
+
+// The clock of the listed hashes, into `clock`. An empty list needs no walk.
+pub fn clock_into(
+    hashes: &[u8],
+    nodes: &[u32],
+    targets: &[u32],
+    nexts: &[u32],
+    clocks: &[u32],
+    counts: &[u32],
+    list: &[u8],
+    clock: &mut [u32],
+)
+    requires { ⌜ Valid (tables (now hashes) (now nodes) (now targets) (now nexts) (now clocks) (now counts)) ⌝ }
+    requires { ⌜ (actors (tables (now hashes) (now nodes) (now targets) (now nexts) (now clocks) (now counts)) ≤ length (now clock)) × (length (now clock) ≤ actorRoom (tables (now hashes) (now nodes) (now targets) (now nexts) (now clocks) (now counts))) ⌝ }
+    ensures { λ _. ⌜ now (clock .exit) ≡ each-below (clock-entries (graph (tables (now (hashes .entry)) (now (nodes .entry)) (now (targets .entry)) (now (nexts .entry)) (now (clocks .entry)) (now (counts .entry)))) (now (list .entry))) (length (now (clock .entry))) ⌝ }
+{
+    if list.len() == 0 {
+        walk::clear(clock);
+        return;
+    }
+    walk_into(hashes, nodes, targets, nexts, clocks, counts, list, clock);
 }
 
 // The clock of the listed hashes, into the first entries of `clock`, an entry for each actor.
