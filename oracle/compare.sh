@@ -5,7 +5,7 @@ set -euo pipefail
 cd "$(dirname "$0")/.."
 . host/toolchain.sh
 seed="${1:-7}"
-rounds="${2:-150}"
+rounds="${2:-60}"
 source="${AUTOMERGE_SRC:-oracle/../../shared/docs/src}"
 if ! command -v cargo >/dev/null 2>&1 || [ -z "$CC" ] || [ ! -d "$source" ]; then
   echo "oracle: cargo, a C compiler or the Rust text is not here, so nothing is compared"
@@ -25,3 +25,14 @@ if [ -n "$RUN" ]; then
 fi
 target/oracle/release/oracle check
 target/oracle/release/oracle fuzz "$seed" "$rounds" "$host" | tail -n 2
+
+# Random text sessions, through the C function and through the Rust.
+$CC $CFLAGS host/session.c target/libchangegraph.a -o target/host/session
+sessions=0
+for each in $(seq "$seed" $((seed + 39))); do
+  target/oracle/release/oracle gen-session "$each" 400 >target/host/random.list
+  target/oracle/release/oracle session <target/host/random.list >target/host/random.answer 2>/dev/null
+  $RUN target/host/session target/host/random.list | cmp - target/host/random.answer
+  sessions=$((sessions + 1))
+done
+echo "sessions from seed $seed on: $sessions the same"

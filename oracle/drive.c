@@ -504,6 +504,9 @@ static int question(void) {
     say_told(ASK(PLAIN, cg_len(GRAPH, told, 1)));
   } else if (is("actors", 0)) {
     say_told(ASK(PLAIN, cg_num_actors(GRAPH, told, 1)));
+  } else if (is("actids", 1)) {
+    uint64_t which = number_of(field[1]);
+    say_entries(ASK(ENTRIES, cg_actor_ids(GRAPH, which, entries, room, told, 1)));
   } else if (is("deps", 1)) {
     hash_of(field[1]);
     say_hashes(ASK(BYTES, cg_deps_for_hash(GRAPH, one_hash, 32, answer, room, told, 1)));
@@ -585,6 +588,16 @@ static int of_clock(void) {
   } else if (is("sget", 2)) {
     Clock c = clock_of(field[1]);
     say_told(cg_clock_get(c.entries, 64, c.count, number_of(field[2]), told, 1));
+  } else if (is("sinsert", 2)) {
+    Clock c = clock_of(field[1]);
+    uint32_t r = cg_clock_rewrite_with_new_actor(c.entries, 64, c.count, number_of(field[2]));
+    c.count += r == 0;
+    say_clock(r, &c);
+  } else if (is("sremove", 2)) {
+    Clock c = clock_of(field[1]);
+    uint32_t r = cg_clock_remove_actor(c.entries, 64, c.count, number_of(field[2]));
+    c.count -= r == 0;
+    say_clock(r, &c);
   } else if (is("oisolate", 2)) {
     Clock c = clock_of(field[1]);
     uint32_t r = cg_clock_isolate(&c, number_of(field[2]));
@@ -640,7 +653,9 @@ static int of_queue(void) {
     uint64_t k = number_of(field[1]), s = number_of(field[2]);
     say_yes(ASK(PLAIN, cg_queue_has_actor_seq(WAITING(queue), k, s, told, 1)));
   } else if (is("qpop", 0)) {
-    uint32_t r = after(cg_release(GRAPH, WAITING(queue), given.hashes, 32 * Q, given.numbers, 5 * Q, given.deps, 1024 * Q, told, 1));
+    /* against the whole graph, or against its table of hashes */
+    uint32_t r = after(++questions % 2 == 0 ? cg_release(GRAPH, WAITING(queue), given.hashes, 32 * Q, given.numbers, 5 * Q, given.deps, 1024 * Q, told, 1)
+                                            : cg_queue_release(hashes, 32 * N, counts[0], WAITING(queue), given.hashes, 32 * Q, given.numbers, 5 * Q, given.deps, 1024 * Q, told, 1));
     if (r != 0) {
       say(r);
     } else {

@@ -168,8 +168,11 @@ impl Gen {
             40 => format!("delactor {}", self.r.below(na + 1)),
             41 => format!("remanc {} {}", self.list(6), self.list(3)),
             42 => format!("has {}", self.some(true)),
-            43 => ["tables", "chained", "len", "actors"][self.r.below(4) as usize].into(),
-            44 => format!("sget {} {}", self.clock(), self.r.below(6)),
+            43 => ["tables", "chained", "len", "actors", "actids 0", "actids 1", "actids 2"][self.r.below(7) as usize].into(),
+            44 => {
+                let q = ["sget", "sinsert", "sremove", "oisolate"][self.r.below(4) as usize];
+                format!("{q} {} {}", self.clock(), self.r.below(6))
+            }
             45 if self.r.one_in(6) => "forget".into(),
             45 => self.damage(w),
             46 => "cache".into(),
@@ -194,6 +197,7 @@ impl Gen {
             52 => "qlist".into(),
             53 => "qpop".into(),
             54 => format!("qdrop {} {}", self.r.below(5), self.r.below(9)),
+            55 if self.r.one_in(2) => format!("ocovers {} {} {}", self.clock(), self.r.below(5), self.r.below(6)),
             55 => format!("qhas {}", self.some(true)),
             56 => format!("sinclude {} {} {}", self.clock(), self.r.below(5), self.r.below(4)),
             57 => format!("smerge {} {}", self.clock(), self.clock()),

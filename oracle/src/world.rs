@@ -398,6 +398,20 @@ impl World {
             ),
             ["len"] => both(guard(|| self.g.len().to_string()), self.p.nodes.len().to_string()),
             ["actors"] => both(guard(|| self.g.num_actors().to_string()), self.p.actors.to_string()),
+            ["actids", which] => {
+                let which = num(which)?;
+                let rust = guard(|| {
+                    let v: Vec<u64> = match which {
+                        0 => self.g.actor_ids().map(|a| a as u64).collect(),
+                        1 => self.g.unused_actors().map(|a| a as u64).collect(),
+                        _ => self.g.all_actor_ids().map(|a| a as u64).collect(),
+                    };
+                    show_nums(&v)
+                });
+                let used = |a: &u64| self.p.of_actor(*a).next().is_some();
+                let listed = |a: &u64| which > 1 || used(a) == (which == 0);
+                both(rust, show_nums(&(0..self.p.actors as u64).filter(listed).collect::<Vec<_>>()))
+            }
             ["deps", h] => {
                 let h = hash(h)?;
                 let r = guard(|| {
@@ -576,6 +590,34 @@ impl World {
                 let (v, c, at) = (nums(c)?, seq_clock(c)?, num(at)? as usize);
                 let r = guard(|| c.get_for_actor(&at).map_or(0, |n| n.get()).to_string());
                 both(r, v.get(at).copied().unwrap_or(0).to_string())
+            }
+            ["sinsert", c, at] => {
+                let (mut v, mut c, at) = (nums(c)?, seq_clock(c)?, num(at)? as usize);
+                let r = guard(|| {
+                    c.rewrite_with_new_actor(at);
+                    show_nums(&seq_nums(&c))
+                });
+                let p = if at > v.len() {
+                    "12".into()
+                } else {
+                    v.insert(at, 0);
+                    show_nums(&v)
+                };
+                both(r, p)
+            }
+            ["sremove", c, at] => {
+                let (mut v, mut c, at) = (nums(c)?, seq_clock(c)?, num(at)? as usize);
+                let r = guard(|| {
+                    c.remove_actor(at);
+                    show_nums(&seq_nums(&c))
+                });
+                let p = if at >= v.len() {
+                    "5".into()
+                } else {
+                    v.remove(at);
+                    show_nums(&v)
+                };
+                both(r, p)
             }
             ["oisolate", c, at] => {
                 let (mut v, mut c, at) = (nums(c)?, op_clock(c)?, num(at)? as usize);
