@@ -410,11 +410,28 @@ fn releasing() -> Case {
     }
 }
 
-fn cases() -> Vec<Case> {
-    let mut v = vec![adding("chain", N), adding("merging", N), adding("wide", N), adding_one(256), adding_one(N), releasing()];
-    v.extend(asking("merging", 256));
-    v.extend(asking("merging", N));
-    v.extend(asking("chain", N));
+/// All cases, or those prepared with the one of that name.
+fn cases(only: Option<&str>) -> Vec<Case> {
+    let wanted = |end: String| only.is_none_or(|name| name.ends_with(&end));
+    let mut v = vec![];
+    for shape in ["chain", "merging", "wide"] {
+        if wanted(format!("add {N}, {shape}")) {
+            v.push(adding(shape, N));
+        }
+    }
+    for n in [256, N] {
+        if wanted(format!("add one to {}", n - 1)) {
+            v.push(adding_one(n));
+        }
+    }
+    if wanted(format!("release of {Q}")) {
+        v.push(releasing());
+    }
+    for (shape, n) in [("merging", 256), ("merging", N), ("chain", N)] {
+        if wanted(format!("of {n}, {shape}")) {
+            v.extend(asking(shape, n));
+        }
+    }
     v
 }
 
@@ -442,7 +459,7 @@ pub fn run() -> i32 {
     println!("microseconds an operation, the fastest of several runs; ratios to the Rust");
     println!("| case | Rust | core | ratio | public | ratio |");
     println!("|---|---|---|---|---|---|");
-    for mut c in cases() {
+    for mut c in cases(None) {
         let times: Vec<Option<f64>> = c.sides.iter_mut().map(|s| s.as_mut().map(|f| fastest(&mut **f))).collect();
         let ratio = |i: usize| match (times[0], times[i]) {
             (Some(r), Some(t)) => format!("{:.2}", t / r),
@@ -456,7 +473,7 @@ pub fn run() -> i32 {
 
 /// The names of the cases and their sides, a line each.
 pub fn names() -> i32 {
-    for c in cases() {
+    for c in cases(None) {
         for (i, s) in c.sides.iter().enumerate() {
             if s.is_some() {
                 println!("{}\t{}\t{}", c.name, SIDES[i], c.operations);
@@ -467,7 +484,7 @@ pub fn names() -> i32 {
 }
 
 pub fn once(name: &str, side: &str) -> i32 {
-    for mut c in cases() {
+    for mut c in cases(Some(name)) {
         if c.name == name {
             let i = SIDES.iter().position(|s| *s == side).unwrap();
             black_box(measured(&mut **c.sides[i].as_mut().unwrap()));
