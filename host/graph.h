@@ -25,6 +25,55 @@ static inline Graph graph_of(size_t changes, size_t edge_room, size_t actors, in
   return g;
 }
 
+/* All tables, as a function is lent them. */
+#define GRAPH(g) (g)->hashes, 32 * (g)->changes, (g)->nodes, 6 * (g)->changes, (g)->edges, (g)->edge_room, (g)->clocks, (g)->changes *(g)->actors, (g)->counts, 3
+
+/* A copy of all bytes of the tables, to be compared afterwards. */
+static inline uint8_t *graph_copy(const Graph *g, size_t *size) {
+  size_t parts[5] = {32 * g->changes, 24 * g->changes, sizeof(Edge) * g->edge_room, 4 * g->changes * g->actors, 12};
+  const void *from[5] = {g->hashes, g->nodes, g->edges, g->clocks, g->counts};
+  *size = parts[0] + parts[1] + parts[2] + parts[3] + parts[4];
+  uint8_t *copy = malloc(*size);
+  size_t at = 0;
+  for (int i = 0; i < 5; i++) {
+    memcpy(copy + at, from[i], parts[i]);
+    at += parts[i];
+  }
+  return copy;
+}
+
+/* A field that validity names, with a value that is not valid in the worked example (H1, then H2 and H3 on it, in tables of 4, 4 and 3). */
+typedef struct Harm {
+  uint32_t *at;
+  uint32_t value;
+  const char *what;
+} Harm;
+
+enum { HARMS = 17 };
+
+static inline void harms_of(Graph *g, Harm *harm) {
+  Harm all[HARMS] = {
+      {&g->counts[0], 5, "more changes than room"},
+      {&g->counts[1], 5, "more edges than room"},
+      {&g->counts[2], 4, "more actors than room"},
+      {&g->counts[0], 2, "a change fewer, its edge too many"},
+      {&g->nodes[0], 2, "an actor not below the count"},
+      {&g->nodes[13], 3, "a sequence left out"},
+      {&g->nodes[3], 4, "an op count above its max op"},
+      {&g->nodes[10], 2, "a list that starts at another edge"},
+      {&g->nodes[5], 1, "a head that is none"},
+      {&g->nodes[11], 0, "a head that is not said to be one"},
+      {&g->nodes[11], 2, "a head flag of 2"},
+      {&g->edges[0].target, 1, "a change that depends on itself"},
+      {&g->edges[1].target, 3, "a dependency on no change"},
+      {&g->edges[0].next, 2, "a list that goes on into another"},
+      {&g->clocks[4], 2, "a cached clock that is none"},
+      {&g->clocks[2], 1, "an entry past the actors in use"},
+      {(uint32_t *)(g->hashes + 32), 1, "a hash twice"},
+  };
+  memcpy(harm, all, sizeof all);
+}
+
 /* The hash of a number: its bytes first, so that two differ early, then the byte 7. */
 static inline void hash_of(uint32_t n, uint8_t *out) {
   memset(out, 7, 32);

@@ -2,34 +2,11 @@
  * in each field that validity names. Every answer but 0 must leave every byte. Tables end at a page that may not be touched. */
 #include "graph.h"
 
-static int failures = 0;
-static int checks = 0;
-
-static void expect(int right, const char *what) {
-  checks++;
-  if (!right) {
-    failures++;
-    printf("failed: %s\n", what);
-  }
-}
-
-/* A copy of all bytes of the tables, to be compared afterwards. */
-static uint8_t *copy_of(const Graph *g, size_t *size) {
-  size_t parts[5] = {32 * g->changes, 24 * g->changes, sizeof(Edge) * g->edge_room, 4 * g->changes * g->actors, 12};
-  const void *from[5] = {g->hashes, g->nodes, g->edges, g->clocks, g->counts};
-  *size = parts[0] + parts[1] + parts[2] + parts[3] + parts[4];
-  uint8_t *copy = malloc(*size);
-  size_t at = 0;
-  for (int i = 0; i < 5; i++) {
-    memcpy(copy + at, from[i], parts[i]);
-    at += parts[i];
-  }
-  return copy;
-}
+#include "check.h"
 
 static void unchanged(const Graph *g, const uint8_t *before, size_t size, const char *what) {
   size_t now;
-  uint8_t *after = copy_of(g, &now);
+  uint8_t *after = graph_copy(g, &now);
   expect(now == size && memcmp(before, after, size) == 0, what);
   free(after);
 }
@@ -48,7 +25,7 @@ static Graph worked(void) {
 static void refusals(void) {
   Graph g = worked();
   size_t size;
-  uint8_t *before = copy_of(&g, &size);
+  uint8_t *before = graph_copy(&g, &size);
   uint32_t many[40], ones[2] = {1, 9}, three[3] = {1, 1, 1};
   uint8_t hash[33] = {0};
   for (int i = 0; i < 40; i++) {
@@ -72,7 +49,7 @@ static void refusals(void) {
   free(before);
 
   expect(add(&g, 5, 0, 3, 4294967295u, 1, ones, 1) == CG_DONE, "the largest max op");
-  before = copy_of(&g, &size);
+  before = graph_copy(&g, &size);
   expect(add(&g, 6, 0, 4, 6, 1, ones, 1) == CG_NO_NODE_ROOM, "no room for a fifth change");
   unchanged(&g, before, size, "no room leaves every byte");
   free(before);
@@ -103,7 +80,7 @@ static void unknown(void) {
 static void actors(void) {
   Graph g = worked();
   size_t size;
-  uint8_t *before = copy_of(&g, &size);
+  uint8_t *before = graph_copy(&g, &size);
 #define ACTOR(f, place) f(g.hashes, 32 * g.changes, g.nodes, 6 * g.changes, g.edges, g.edge_room, g.clocks, g.changes *g.actors, g.counts, 3, place)
   expect(ACTOR(cg_insert_actor, 3) == CG_NO_ACTOR_ROOM, "a place above the count");
   expect(ACTOR(cg_remove_actor, 2) == CG_NO_ACTOR, "no such actor to remove");
@@ -120,40 +97,13 @@ static void actors(void) {
 /* One field damaged at a time: each is answered with 1 and leaves every byte. */
 static void damaged(void) {
   Graph g = worked();
-  struct {
-    uint32_t *at;
-    uint32_t value;
-    const char *what;
-  } harm[] = {
-      {&g.counts[0], 5, "more changes than room"},
-      {&g.counts[1], 5, "more edges than room"},
-      {&g.counts[2], 4, "more actors than room"},
-      {&g.counts[0], 2, "a change fewer, its edge too many"},
-      {&g.nodes[0], 2, "an actor not below the count"},
-      {&g.nodes[13], 3, "a sequence left out"},
-      {&g.nodes[3], 4, "an op count above its max op"},
-      {&g.nodes[10], 2, "a list that starts at another edge"},
-      {&g.nodes[5], 1, "a head that is none"},
-      {&g.nodes[11], 0, "a head that is not said to be one"},
-      {&g.nodes[11], 2, "a head flag of 2"},
-      {&g.edges[0].target, 1, "a change that depends on itself"},
-      {&g.edges[1].target, 3, "a dependency on no change"},
-      {&g.edges[0].next, 2, "a list that goes on into another"},
-      {&g.clocks[0], 1, "a cached clock with nothing past its own actor"},
-      {&g.clocks[4], 2, "a cached clock that is none"},
-      {&g.clocks[2], 1, "an entry past the actors in use"},
-      {(uint32_t *)(g.hashes + 32), 1, "a hash twice"},
-  };
-  uint8_t kept[32];
-  memcpy(kept, g.hashes + 32, 32);
-  for (size_t i = 0; i < sizeof harm / sizeof harm[0]; i++) {
+  Harm harm[HARMS];
+  harms_of(&g, harm);
+  for (size_t i = 0; i < HARMS; i++) {
     uint32_t old = *harm[i].at;
-    if (i == 14) {
-      continue; /* a first change's clock is its own sequence: that row is right, see below */
-    }
     *harm[i].at = harm[i].value;
     size_t size;
-    uint8_t *before = copy_of(&g, &size);
+    uint8_t *before = graph_copy(&g, &size);
     expect(add(&g, 9, 0, 3, 9, 1, (uint32_t[]){1}, 1) == CG_NOT_VALID, harm[i].what);
     unchanged(&g, before, size, harm[i].what);
     free(before);
@@ -236,6 +186,5 @@ int main(void) {
   lengths();
   caching();
   clocks();
-  printf("graph and clocks: %d checks, %d failed\n", checks, failures);
-  return failures != 0;
+  return summed_up("graph and clocks");
 }

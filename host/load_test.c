@@ -2,38 +2,14 @@
  * and one long. Every number but 0 must leave every byte. Tables and columns end at a page that may not be touched. */
 #include "graph.h"
 
-static int failures = 0;
-static int checks = 0;
-
-static void expect(int right, const char *what) {
-  checks++;
-  if (!right) {
-    failures++;
-    printf("failed: %s\n", what);
-  }
-}
+#include "check.h"
 
 enum { UNTOLD = 77 };
-
-#define GRAPH(g) (g)->hashes, 32 * (g)->changes, (g)->nodes, 6 * (g)->changes, (g)->edges, (g)->edge_room, (g)->clocks, (g)->changes *(g)->actors, (g)->counts, 3
-
-static uint8_t *copy_of(const Graph *g, size_t *size) {
-  size_t parts[5] = {32 * g->changes, 24 * g->changes, sizeof(Edge) * g->edge_room, 4 * g->changes * g->actors, 12};
-  const void *from[5] = {g->hashes, g->nodes, g->edges, g->clocks, g->counts};
-  *size = parts[0] + parts[1] + parts[2] + parts[3] + parts[4];
-  uint8_t *copy = malloc(*size);
-  size_t at = 0;
-  for (int i = 0; i < 5; i++) {
-    memcpy(copy + at, from[i], parts[i]);
-    at += parts[i];
-  }
-  return copy;
-}
 
 /* Whether all bytes are those of the copy, which is freed. */
 static int same(const Graph *g, uint8_t *before) {
   size_t size;
-  uint8_t *after = copy_of(g, &size);
+  uint8_t *after = graph_copy(g, &size);
   int yes = memcmp(before, after, size) == 0;
   free(before);
   free(after);
@@ -80,7 +56,7 @@ static Graph rubbish(void) { return graph_of(4, 4, 3, 0xEE); }
 /* The number, and that a refusal leaves every byte. */
 static void refused(Graph *g, const Columns *c, uint32_t number, const char *what) {
   size_t size;
-  uint8_t *before = copy_of(g, &size);
+  uint8_t *before = graph_copy(g, &size);
   expect(cg_load(GRAPH(g), COLUMNS(c)) == number, what);
   expect(same(g, before), what);
 }
@@ -93,10 +69,10 @@ static void loading(void) {
   expect(open_graph(&added, 2) == CG_DONE && add(&added, 1, 0, 1, 3, 3, one, 0) == CG_DONE && add(&added, 2, 1, 1, 5, 2, one, 1) == CG_DONE && add(&added, 3, 0, 2, 5, 2, one, 1) == CG_DONE,
          "the worked example");
   expect(cg_load(GRAPH(&g), COLUMNS(&c)) == CG_DONE, "load the worked example");
-  expect(same(&g, copy_of(&added, &size)), "loaded is what adding gives, byte for byte");
+  expect(same(&g, graph_copy(&added, &size)), "loaded is what adding gives, byte for byte");
   Columns more = columns_of(6, 1);
   expect(cg_load(GRAPH(&g), COLUMNS(&more)) == CG_DONE, "a dependency value too many is ignored, and what was there is replaced");
-  expect(same(&g, copy_of(&added, &size)), "loaded again");
+  expect(same(&g, graph_copy(&added, &size)), "loaded again");
   Columns none = columns_of(-1, 0);
   memset(none.len, 0, sizeof none.len);
   expect(cg_load(GRAPH(&g), COLUMNS(&none)) == CG_DONE && g.counts[0] == 0 && g.counts[1] == 0 && g.counts[2] == 2, "nothing, for two actors");
@@ -199,7 +175,7 @@ static void forgetting(void) {
   expect(g.clocks[3 * 15] == 16 && g.clocks[3 * 31] == 32, "two clocks are cached");
   memset(g.clocks + 3 * 32, 0xEE, 4 * 3 * 8);
   size_t size;
-  uint8_t *before = copy_of(&g, &size), *other = copy_of(&g, &size);
+  uint8_t *before = graph_copy(&g, &size), *other = graph_copy(&g, &size);
   g.nodes[5] = 1;
   expect(cg_forget(GRAPH(&g)) == CG_NOT_VALID, "a graph that is not valid");
   g.nodes[5] = 0;
@@ -281,6 +257,5 @@ int main(void) {
   lengths();
   forgetting();
   clocks();
-  printf("loading, forgetting and clocks on slices: %d checks, %d failed\n", checks, failures);
-  return failures != 0;
+  return summed_up("loading, forgetting and clocks on slices");
 }

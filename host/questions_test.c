@@ -3,15 +3,12 @@
  * Every answer but 0 must leave every byte of the tables, the buffer and the places. Tables and buffers end at a page that may not be touched. */
 #include "graph.h"
 
-static int failures = 0;
-static int checks = 0;
+#include "check.h"
 
-static void expect(int right, const char *question, const char *what) {
-  checks++;
-  if (!right) {
-    failures++;
-    printf("failed: %s: %s\n", question, what);
-  }
+static void expect_of(int right, const char *question, const char *what) {
+  char both[256];
+  snprintf(both, sizeof both, "%s: %s", question, what);
+  expect(right, both);
 }
 
 /* ---- tables as they are lent */
@@ -55,10 +52,10 @@ static uint8_t *copy_of(const Lent *t) {
 static Graph worked(void) {
   Graph g = graph_of(4, 4, 3, 0xEE);
   uint32_t one[1] = {1};
-  expect(open_graph(&g, 2) == CG_DONE, "worked", "open");
-  expect(add(&g, 1, 0, 1, 3, 3, one, 0) == CG_DONE, "worked", "add H1");
-  expect(add(&g, 2, 1, 1, 5, 2, one, 1) == CG_DONE, "worked", "add H2");
-  expect(add(&g, 3, 0, 2, 5, 2, one, 1) == CG_DONE, "worked", "add H3");
+  expect_of(open_graph(&g, 2) == CG_DONE, "worked", "open");
+  expect_of(add(&g, 1, 0, 1, 3, 3, one, 0) == CG_DONE, "worked", "add H1");
+  expect_of(add(&g, 2, 1, 1, 5, 2, one, 1) == CG_DONE, "worked", "add H2");
+  expect_of(add(&g, 3, 0, 2, 5, 2, one, 1) == CG_DONE, "worked", "add H3");
   return g;
 }
 
@@ -146,25 +143,25 @@ static void answers(void) {
         uint32_t r = q->ask(&t, out, room, told, places);
         size_t wrote = 0;
         if (step < 0) {
-          expect(r == CG_SHORT_BUFFER, q->name, "a buffer one short");
+          expect_of(r == CG_SHORT_BUFFER, q->name, "a buffer one short");
         } else {
-          expect(r == CG_DONE, q->name, "a buffer of the length, or one long");
+          expect_of(r == CG_DONE, q->name, "a buffer of the length, or one long");
           wrote = q->element * takes;
-          expect(wrote == 0 || memcmp(out, q->answer, wrote) == 0, q->name, "the answer");
-          expect(places == 0 || told[0] == q->told, q->name, "what is told");
+          expect_of(wrote == 0 || memcmp(out, q->answer, wrote) == 0, q->name, "the answer");
+          expect_of(places == 0 || told[0] == q->told, q->name, "what is told");
         }
         for (size_t b = wrote; b < q->element * room; b++) {
-          expect(out[b] == 0xCC, q->name, "what lies past the answer, or before a refusal, stays");
+          expect_of(out[b] == 0xCC, q->name, "what lies past the answer, or before a refusal, stays");
         }
         for (size_t p = step < 0 ? 0 : 1; p < places; p++) {
-          expect(told[p] == 0xDDDDDDDDDDDDDDDDu, q->name, "the other places stay");
+          expect_of(told[p] == 0xDDDDDDDDDDDDDDDDu, q->name, "the other places stay");
         }
         unguard(out, q->element * room);
         unguard(told, 8 * places);
       }
     }
     uint8_t *after = copy_of(&t);
-    expect(memcmp(before, after, size_of(&t)) == 0, q->name, "the tables stay");
+    expect_of(memcmp(before, after, size_of(&t)) == 0, q->name, "the tables stay");
     free(after);
   }
   free(before);
@@ -179,14 +176,14 @@ static void refused(const Lent *t, const char *what) {
     uint8_t out[256];
     uint64_t told[2] = {77, 78};
     memset(out, 0xCC, sizeof out);
-    expect(q->ask(t, out, sizeof out / 4, told, 2) == CG_NOT_VALID, q->name, what);
-    expect(q->ask(t, out, 0, told, 0) == CG_NOT_VALID, q->name, "1 comes before 15");
+    expect_of(q->ask(t, out, sizeof out / 4, told, 2) == CG_NOT_VALID, q->name, what);
+    expect_of(q->ask(t, out, 0, told, 0) == CG_NOT_VALID, q->name, "1 comes before 15");
     for (size_t b = 0; b < sizeof out; b++) {
-      expect(out[b] == 0xCC, q->name, "1 leaves the buffer");
+      expect_of(out[b] == 0xCC, q->name, "1 leaves the buffer");
     }
-    expect(told[0] == 77 && told[1] == 78, q->name, "1 leaves the places");
+    expect_of(told[0] == 77 && told[1] == 78, q->name, "1 leaves the places");
     uint8_t *after = copy_of(t);
-    expect(memcmp(before, after, size_of(t)) == 0, q->name, "1 leaves the tables");
+    expect_of(memcmp(before, after, size_of(t)) == 0, q->name, "1 leaves the tables");
     free(after);
   }
   free(before);
@@ -195,29 +192,9 @@ static void refused(const Lent *t, const char *what) {
 static void damaged(void) {
   Graph g = worked();
   Lent t = lent_of(&g);
-  struct {
-    uint32_t *at;
-    uint32_t value;
-    const char *what;
-  } harm[] = {
-      {&g.counts[0], 5, "more changes than room"},
-      {&g.counts[1], 5, "more edges than room"},
-      {&g.counts[2], 4, "more actors than room"},
-      {&g.counts[0], 2, "a change fewer, its edge too many"},
-      {&g.nodes[0], 2, "an actor not below the count"},
-      {&g.nodes[13], 3, "a sequence left out"},
-      {&g.nodes[3], 4, "an op count above its max op"},
-      {&g.nodes[10], 2, "a list that starts at another edge"},
-      {&g.nodes[5], 1, "a head that is none"},
-      {&g.nodes[11], 0, "a head that is not said to be one"},
-      {&g.edges[0].target, 1, "a change that depends on itself"},
-      {&g.edges[1].target, 3, "a dependency on no change"},
-      {&g.edges[0].next, 2, "a list that goes on into another"},
-      {&g.clocks[4], 2, "a cached clock that is none"},
-      {&g.clocks[2], 1, "an entry past the actors in use"},
-      {(uint32_t *)(g.hashes + 32), 1, "a hash twice"},
-  };
-  for (size_t i = 0; i < sizeof harm / sizeof harm[0]; i++) {
+  Harm harm[HARMS];
+  harms_of(&g, harm);
+  for (size_t i = 0; i < HARMS; i++) {
     uint32_t old = *harm[i].at;
     *harm[i].at = harm[i].value;
     refused(&t, harm[i].what);
@@ -226,7 +203,7 @@ static void damaged(void) {
   for (size_t i = 0; i < QUESTIONS; i++) {
     uint8_t out[256];
     uint64_t told[1];
-    expect(questions[i].ask(&t, out, 64, told, 1) == CG_DONE, questions[i].name, "the mended tables are valid");
+    expect_of(questions[i].ask(&t, out, 64, told, 1) == CG_DONE, questions[i].name, "the mended tables are valid");
   }
 }
 
@@ -270,48 +247,48 @@ static void own_refusals(void) {
   memset(entries, 0xCC, sizeof entries);
   const size_t wrong[3] = {31, 33, 65};
   for (int i = 0; i < 3; i++) {
-    expect(cg_clock_of(TABLES(&t), list, wrong[i], entries, 8, told, 1) == CG_MALFORMED, "clock_of", "a list that is no multiple of 32");
-    expect(cg_clock_of(TABLES(&t), list, wrong[i], entries, 0, told, 1) == CG_MALFORMED, "clock_of", "2 comes before 15");
-    expect(cg_missing(TABLES(&t), list, wrong[i], out, 128, told, 1) == CG_MALFORMED, "missing", "a list that is no multiple of 32");
-    expect(cg_missing(TABLES(&t), list, wrong[i], out, 0, told, 1) == CG_MALFORMED, "missing", "2 comes before 15");
-    expect(cg_clock_at(TABLES(&t), list, wrong[i], entries, 8, told, 1) == CG_MALFORMED, "clock_at", "a list that is no multiple of 32");
-    expect(cg_clock_at(TABLES(&t), list, wrong[i], entries, 0, told, 1) == CG_MALFORMED, "clock_at", "2 comes before 15");
-    expect(cg_deps_for_hash(TABLES(&t), list, wrong[i], out, 128, told, 1) == CG_MALFORMED, "deps_for_hash", "a hash that is not 32 bytes");
-    expect(cg_deps_for_hash(TABLES(&t), list, wrong[i], out, 0, told, 1) == CG_MALFORMED, "deps_for_hash", "2 comes before 15");
-    expect(cg_remove_ancestors(TABLES(&t), list, wrong[i], h2, 32, out, 128, told, 1) == CG_MALFORMED, "remove_ancestors", "a list that is no multiple of 32");
-    expect(cg_remove_ancestors(TABLES(&t), h2, 32, list, wrong[i], out, 128, told, 1) == CG_MALFORMED, "remove_ancestors", "heads that are no multiple of 32");
-    expect(cg_remove_ancestors(TABLES(&t), h2, 32, list, wrong[i], out, 0, told, 1) == CG_MALFORMED, "remove_ancestors", "2 comes before 15");
-    expect(cg_heads_are_current(TABLES(&t), list, wrong[i], told, 1) == CG_MALFORMED, "heads_are_current", "a list that is no multiple of 32");
-    expect(cg_hash_to_index(TABLES(&t), list, wrong[i], told, 1) == CG_MALFORMED, "hash_to_index", "a hash that is not 32 bytes");
-    expect(cg_has_change(TABLES(&t), list, wrong[i], told, 1) == CG_MALFORMED, "has_change", "a hash that is not 32 bytes");
+    expect_of(cg_clock_of(TABLES(&t), list, wrong[i], entries, 8, told, 1) == CG_MALFORMED, "clock_of", "a list that is no multiple of 32");
+    expect_of(cg_clock_of(TABLES(&t), list, wrong[i], entries, 0, told, 1) == CG_MALFORMED, "clock_of", "2 comes before 15");
+    expect_of(cg_missing(TABLES(&t), list, wrong[i], out, 128, told, 1) == CG_MALFORMED, "missing", "a list that is no multiple of 32");
+    expect_of(cg_missing(TABLES(&t), list, wrong[i], out, 0, told, 1) == CG_MALFORMED, "missing", "2 comes before 15");
+    expect_of(cg_clock_at(TABLES(&t), list, wrong[i], entries, 8, told, 1) == CG_MALFORMED, "clock_at", "a list that is no multiple of 32");
+    expect_of(cg_clock_at(TABLES(&t), list, wrong[i], entries, 0, told, 1) == CG_MALFORMED, "clock_at", "2 comes before 15");
+    expect_of(cg_deps_for_hash(TABLES(&t), list, wrong[i], out, 128, told, 1) == CG_MALFORMED, "deps_for_hash", "a hash that is not 32 bytes");
+    expect_of(cg_deps_for_hash(TABLES(&t), list, wrong[i], out, 0, told, 1) == CG_MALFORMED, "deps_for_hash", "2 comes before 15");
+    expect_of(cg_remove_ancestors(TABLES(&t), list, wrong[i], h2, 32, out, 128, told, 1) == CG_MALFORMED, "remove_ancestors", "a list that is no multiple of 32");
+    expect_of(cg_remove_ancestors(TABLES(&t), h2, 32, list, wrong[i], out, 128, told, 1) == CG_MALFORMED, "remove_ancestors", "heads that are no multiple of 32");
+    expect_of(cg_remove_ancestors(TABLES(&t), h2, 32, list, wrong[i], out, 0, told, 1) == CG_MALFORMED, "remove_ancestors", "2 comes before 15");
+    expect_of(cg_heads_are_current(TABLES(&t), list, wrong[i], told, 1) == CG_MALFORMED, "heads_are_current", "a list that is no multiple of 32");
+    expect_of(cg_hash_to_index(TABLES(&t), list, wrong[i], told, 1) == CG_MALFORMED, "hash_to_index", "a hash that is not 32 bytes");
+    expect_of(cg_has_change(TABLES(&t), list, wrong[i], told, 1) == CG_MALFORMED, "has_change", "a hash that is not 32 bytes");
   }
-  expect(cg_hash_to_index(TABLES(&t), list, 0, told, 1) == CG_MALFORMED, "hash_to_index", "a hash of no bytes");
-  expect(cg_has_change(TABLES(&t), list, 0, told, 1) == CG_MALFORMED, "has_change", "a hash of no bytes");
-  expect(cg_hash_to_index(TABLES(&t), h9, 32, told, 1) == CG_NOT_FOUND, "hash_to_index", "an unknown hash");
+  expect_of(cg_hash_to_index(TABLES(&t), list, 0, told, 1) == CG_MALFORMED, "hash_to_index", "a hash of no bytes");
+  expect_of(cg_has_change(TABLES(&t), list, 0, told, 1) == CG_MALFORMED, "has_change", "a hash of no bytes");
+  expect_of(cg_hash_to_index(TABLES(&t), h9, 32, told, 1) == CG_NOT_FOUND, "hash_to_index", "an unknown hash");
   const uint64_t nowhere[3] = {3, 4, UINT64_MAX};
   for (int i = 0; i < 3; i++) {
-    expect(cg_index_to_hash(TABLES(&t), nowhere[i], out, 128, told, 1) == CG_NOT_FOUND, "index_to_hash", "no such node");
-    expect(cg_index_to_hash(TABLES(&t), nowhere[i], out, 0, told, 1) == CG_NOT_FOUND, "index_to_hash", "13 comes before 15");
+    expect_of(cg_index_to_hash(TABLES(&t), nowhere[i], out, 128, told, 1) == CG_NOT_FOUND, "index_to_hash", "no such node");
+    expect_of(cg_index_to_hash(TABLES(&t), nowhere[i], out, 0, told, 1) == CG_NOT_FOUND, "index_to_hash", "13 comes before 15");
   }
   const uint64_t pairs[6][2] = {{0, 0}, {0, 3}, {1, 2}, {2, 1}, {UINT64_MAX, 1}, {0, UINT64_MAX}};
   for (int i = 0; i < 6; i++) {
-    expect(cg_get_hash_for_actor_seq(TABLES(&t), pairs[i][0], pairs[i][1], out, 128, told, 1) == CG_NOT_FOUND, "get_hash_for_actor_seq", "no such change");
-    expect(cg_get_hash_for_actor_seq(TABLES(&t), pairs[i][0], pairs[i][1], out, 0, told, 1) == CG_NOT_FOUND, "get_hash_for_actor_seq", "13 comes before 15");
+    expect_of(cg_get_hash_for_actor_seq(TABLES(&t), pairs[i][0], pairs[i][1], out, 128, told, 1) == CG_NOT_FOUND, "get_hash_for_actor_seq", "no such change");
+    expect_of(cg_get_hash_for_actor_seq(TABLES(&t), pairs[i][0], pairs[i][1], out, 0, told, 1) == CG_NOT_FOUND, "get_hash_for_actor_seq", "13 comes before 15");
   }
   const uint64_t ops[6][2] = {{0, 0}, {0, 6}, {1, 3}, {2, 1}, {UINT64_MAX, 1}, {0, UINT64_MAX}};
   for (int i = 0; i < 6; i++) {
-    expect(cg_owner(TABLES(&t), ops[i][0], ops[i][1], out, 128, told, 1) == CG_NO_OWNER, "owner", "no change owns the op");
-    expect(cg_owner(TABLES(&t), ops[i][0], ops[i][1], out, 0, told, 1) == CG_NO_OWNER, "owner", "14 comes before 15");
+    expect_of(cg_owner(TABLES(&t), ops[i][0], ops[i][1], out, 128, told, 1) == CG_NO_OWNER, "owner", "no change owns the op");
+    expect_of(cg_owner(TABLES(&t), ops[i][0], ops[i][1], out, 0, told, 1) == CG_NO_OWNER, "owner", "14 comes before 15");
   }
   for (size_t b = 0; b < sizeof out; b++) {
-    expect(out[b] == 0xCC, "all", "a refusal leaves the buffer");
+    expect_of(out[b] == 0xCC, "all", "a refusal leaves the buffer");
   }
   for (size_t e = 0; e < 8; e++) {
-    expect(entries[e] == 0xCCCCCCCCu, "all", "a refusal leaves the entries");
+    expect_of(entries[e] == 0xCCCCCCCCu, "all", "a refusal leaves the entries");
   }
-  expect(told[0] == 77, "all", "a refusal leaves the place");
+  expect_of(told[0] == 77, "all", "a refusal leaves the place");
   uint8_t *after = copy_of(&t);
-  expect(memcmp(before, after, size_of(&t)) == 0, "all", "a refusal leaves the tables");
+  expect_of(memcmp(before, after, size_of(&t)) == 0, "all", "a refusal leaves the tables");
   free(after);
   free(before);
 }
@@ -325,105 +302,105 @@ static void further(void) {
   uint32_t entries[8];
   uint64_t told[1] = {0};
 
-  expect(cg_clock_of(TABLES(&t), list, 0, entries, 2, told, 1) == CG_DONE && told[0] == 2 && entries[0] == 0 && entries[1] == 0, "clock_of", "nothing of an empty list");
-  expect(cg_clock_of(TABLES(&t), h9, 32, entries, 2, told, 1) == CG_DONE && entries[0] == 0 && entries[1] == 0, "clock_of", "nothing of an unknown hash");
+  expect_of(cg_clock_of(TABLES(&t), list, 0, entries, 2, told, 1) == CG_DONE && told[0] == 2 && entries[0] == 0 && entries[1] == 0, "clock_of", "nothing of an empty list");
+  expect_of(cg_clock_of(TABLES(&t), h9, 32, entries, 2, told, 1) == CG_DONE && entries[0] == 0 && entries[1] == 0, "clock_of", "nothing of an unknown hash");
   memcpy(list, h2, 32);
   memcpy(list + 32, h9, 32);
   memcpy(list + 64, h3, 32);
-  expect(cg_clock_of(TABLES(&t), list, 96, entries, 2, told, 1) == CG_DONE && entries[0] == 2 && entries[1] == 1, "clock_of", "both heads, and an unknown hash between them");
+  expect_of(cg_clock_of(TABLES(&t), list, 96, entries, 2, told, 1) == CG_DONE && entries[0] == 2 && entries[1] == 1, "clock_of", "both heads, and an unknown hash between them");
 
-  expect(cg_clock_at(TABLES(&t), list, 96, entries, 2, told, 1) == CG_DONE && entries[0] == 5 && entries[1] == 5, "clock_at", "both heads");
-  expect(cg_clock_at(TABLES(&t), h9, 32, entries, 2, told, 1) == CG_DONE && entries[0] == 0 && entries[1] == 0, "clock_at", "nothing of an unknown hash");
-  expect(cg_deps_for_hash(TABLES(&t), h9, 32, out, 0, told, 1) == CG_DONE && told[0] == 0, "deps_for_hash", "none of an unknown hash, and no buffer is needed");
-  expect(cg_deps_for_hash(TABLES(&t), h1, 32, out, 0, told, 1) == CG_DONE && told[0] == 0, "deps_for_hash", "none of the first");
-  expect(cg_remove_ancestors(TABLES(&t), list, 96, h9, 32, out, 96, told, 1) == CG_DONE && told[0] == 96 && memcmp(out, h2, 32) == 0 && memcmp(out + 32, h3, 32) == 0 && memcmp(out + 64, h9, 32) == 0,
+  expect_of(cg_clock_at(TABLES(&t), list, 96, entries, 2, told, 1) == CG_DONE && entries[0] == 5 && entries[1] == 5, "clock_at", "both heads");
+  expect_of(cg_clock_at(TABLES(&t), h9, 32, entries, 2, told, 1) == CG_DONE && entries[0] == 0 && entries[1] == 0, "clock_at", "nothing of an unknown hash");
+  expect_of(cg_deps_for_hash(TABLES(&t), h9, 32, out, 0, told, 1) == CG_DONE && told[0] == 0, "deps_for_hash", "none of an unknown hash, and no buffer is needed");
+  expect_of(cg_deps_for_hash(TABLES(&t), h1, 32, out, 0, told, 1) == CG_DONE && told[0] == 0, "deps_for_hash", "none of the first");
+  expect_of(cg_remove_ancestors(TABLES(&t), list, 96, h9, 32, out, 96, told, 1) == CG_DONE && told[0] == 96 && memcmp(out, h2, 32) == 0 && memcmp(out + 32, h3, 32) == 0 && memcmp(out + 64, h9, 32) == 0,
          "remove_ancestors", "unknown heads take nothing away; ascending");
-  expect(cg_remove_ancestors(TABLES(&t), list, 96, both_heads, 64, out, 32, told, 1) == CG_DONE && told[0] == 32 && memcmp(out, h9, 32) == 0, "remove_ancestors", "an unknown hash stays");
-  expect(cg_remove_ancestors(TABLES(&t), both_heads, 64, both_heads, 64, out, 0, told, 1) == CG_DONE && told[0] == 0, "remove_ancestors", "heads are in their own history, and no buffer is needed");
-  expect(cg_heads_are_current(TABLES(&t), list, 96, told, 1) == CG_DONE && told[0] == 0, "heads_are_current", "no with an unknown hash");
-  expect(cg_heads_are_current(TABLES(&t), h2, 32, told, 1) == CG_DONE && told[0] == 0, "heads_are_current", "no with a head left out");
-  expect(cg_heads_are_current(TABLES(&t), h2, 0, told, 1) == CG_DONE && told[0] == 0, "heads_are_current", "no of an empty list");
+  expect_of(cg_remove_ancestors(TABLES(&t), list, 96, both_heads, 64, out, 32, told, 1) == CG_DONE && told[0] == 32 && memcmp(out, h9, 32) == 0, "remove_ancestors", "an unknown hash stays");
+  expect_of(cg_remove_ancestors(TABLES(&t), both_heads, 64, both_heads, 64, out, 0, told, 1) == CG_DONE && told[0] == 0, "remove_ancestors", "heads are in their own history, and no buffer is needed");
+  expect_of(cg_heads_are_current(TABLES(&t), list, 96, told, 1) == CG_DONE && told[0] == 0, "heads_are_current", "no with an unknown hash");
+  expect_of(cg_heads_are_current(TABLES(&t), h2, 32, told, 1) == CG_DONE && told[0] == 0, "heads_are_current", "no with a head left out");
+  expect_of(cg_heads_are_current(TABLES(&t), h2, 0, told, 1) == CG_DONE && told[0] == 0, "heads_are_current", "no of an empty list");
   memcpy(list + 32, h3, 32);
   memcpy(list, h3, 32);
   memcpy(list + 64, h2, 32);
-  expect(cg_heads_are_current(TABLES(&t), list, 96, told, 1) == CG_DONE && told[0] == 1, "heads_are_current", "order and repeats are ignored");
+  expect_of(cg_heads_are_current(TABLES(&t), list, 96, told, 1) == CG_DONE && told[0] == 1, "heads_are_current", "order and repeats are ignored");
 
   memset(out, 0xCC, sizeof out);
-  expect(cg_missing(TABLES(&t), list, 0, out, 0, told, 1) == CG_DONE && told[0] == 96 && out[0] == 0xCC, "missing", "an empty have-list writes nothing, and 15 is not given");
-  expect(cg_missing_shown(t.hashes, out, 0) == t.hashes && cg_missing_shown(t.hashes, out, 32) == out, "missing", "what is shown");
-  expect(memcmp(cg_missing_shown(t.hashes, out, 0), h1, 32) == 0 && memcmp(cg_missing_shown(t.hashes, out, 0) + 64, h3, 32) == 0, "missing", "the table's own bytes");
-  expect(cg_missing(TABLES(&t), h9, 32, out, 96, told, 1) == CG_DONE && told[0] == 96 && memcmp(out, t.hashes, 96) == 0, "missing", "to an unknown hash all is missing, through the buffer");
-  expect(cg_missing(TABLES(&t), list, 96, out, 0, told, 1) == CG_DONE && told[0] == 0, "missing", "to who has both heads nothing is missing, and no buffer is needed");
+  expect_of(cg_missing(TABLES(&t), list, 0, out, 0, told, 1) == CG_DONE && told[0] == 96 && out[0] == 0xCC, "missing", "an empty have-list writes nothing, and 15 is not given");
+  expect_of(cg_missing_shown(t.hashes, out, 0) == t.hashes && cg_missing_shown(t.hashes, out, 32) == out, "missing", "what is shown");
+  expect_of(memcmp(cg_missing_shown(t.hashes, out, 0), h1, 32) == 0 && memcmp(cg_missing_shown(t.hashes, out, 0) + 64, h3, 32) == 0, "missing", "the table's own bytes");
+  expect_of(cg_missing(TABLES(&t), h9, 32, out, 96, told, 1) == CG_DONE && told[0] == 96 && memcmp(out, t.hashes, 96) == 0, "missing", "to an unknown hash all is missing, through the buffer");
+  expect_of(cg_missing(TABLES(&t), list, 96, out, 0, told, 1) == CG_DONE && told[0] == 0, "missing", "to who has both heads nothing is missing, and no buffer is needed");
 
-  expect(cg_owner(TABLES(&t), 0, 1, out, 32, told, 1) == CG_DONE && memcmp(out, h1, 32) == 0, "owner", "the first op");
-  expect(cg_owner(TABLES(&t), 0, 3, out, 32, told, 1) == CG_DONE && memcmp(out, h1, 32) == 0, "owner", "the last op of the first change");
-  expect(cg_owner(TABLES(&t), 0, 5, out, 32, told, 1) == CG_DONE && memcmp(out, h3, 32) == 0, "owner", "the last op");
-  expect(cg_owner(TABLES(&t), 1, 4, out, 32, told, 1) == CG_DONE && memcmp(out, h2, 32) == 0, "owner", "the other actor's");
+  expect_of(cg_owner(TABLES(&t), 0, 1, out, 32, told, 1) == CG_DONE && memcmp(out, h1, 32) == 0, "owner", "the first op");
+  expect_of(cg_owner(TABLES(&t), 0, 3, out, 32, told, 1) == CG_DONE && memcmp(out, h1, 32) == 0, "owner", "the last op of the first change");
+  expect_of(cg_owner(TABLES(&t), 0, 5, out, 32, told, 1) == CG_DONE && memcmp(out, h3, 32) == 0, "owner", "the last op");
+  expect_of(cg_owner(TABLES(&t), 1, 4, out, 32, told, 1) == CG_DONE && memcmp(out, h2, 32) == 0, "owner", "the other actor's");
 
-  expect(cg_hash_to_index(TABLES(&t), h1, 32, told, 1) == CG_DONE && told[0] == 0, "hash_to_index", "the first");
-  expect(cg_has_change(TABLES(&t), h9, 32, told, 1) == CG_DONE && told[0] == 0, "has_change", "no for an unknown hash");
-  expect(cg_has_change(TABLES(&t), h1, 32, told, 1) == CG_DONE && told[0] == 1, "has_change", "yes for a known one");
-  expect(cg_seq_for_actor(TABLES(&t), 1, told, 1) == CG_DONE && told[0] == 1, "seq_for_actor", "one change");
-  expect(cg_seq_for_actor(TABLES(&t), 2, told, 1) == CG_DONE && told[0] == 0, "seq_for_actor", "0 for an unknown actor");
-  expect(cg_max_op_for_actor(TABLES(&t), UINT64_MAX, told, 1) == CG_DONE && told[0] == 0, "max_op_for_actor", "0 for an unknown actor");
+  expect_of(cg_hash_to_index(TABLES(&t), h1, 32, told, 1) == CG_DONE && told[0] == 0, "hash_to_index", "the first");
+  expect_of(cg_has_change(TABLES(&t), h9, 32, told, 1) == CG_DONE && told[0] == 0, "has_change", "no for an unknown hash");
+  expect_of(cg_has_change(TABLES(&t), h1, 32, told, 1) == CG_DONE && told[0] == 1, "has_change", "yes for a known one");
+  expect_of(cg_seq_for_actor(TABLES(&t), 1, told, 1) == CG_DONE && told[0] == 1, "seq_for_actor", "one change");
+  expect_of(cg_seq_for_actor(TABLES(&t), 2, told, 1) == CG_DONE && told[0] == 0, "seq_for_actor", "0 for an unknown actor");
+  expect_of(cg_max_op_for_actor(TABLES(&t), UINT64_MAX, told, 1) == CG_DONE && told[0] == 0, "max_op_for_actor", "0 for an unknown actor");
 
-  expect(cg_actor_ids(TABLES(&t), 1, entries, 0, told, 1) == CG_DONE && told[0] == 0, "actor_ids", "none is unused, and no buffer is needed");
-  expect(cg_actor_ids(TABLES(&t), 2, entries, 1, told, 1) == CG_SHORT_BUFFER, "actor_ids", "all, one short");
-  expect(cg_actor_ids(TABLES(&t), UINT64_MAX, entries, 2, told, 1) == CG_DONE && told[0] == 2 && entries[1] == 1, "actor_ids", "every number above 2 lists all");
-  expect(cg_insert_actor(TABLES(&t), 1) == CG_DONE, "insert_actor", "an actor without changes");
-  expect(cg_actor_ids(TABLES(&t), 0, entries, 3, told, 1) == CG_DONE && told[0] == 2 && entries[0] == 0 && entries[1] == 2, "actor_ids", "those with changes");
-  expect(cg_actor_ids(TABLES(&t), 1, entries, 3, told, 1) == CG_DONE && told[0] == 1 && entries[0] == 1, "actor_ids", "the one without");
-  expect(cg_actor_ids(TABLES(&t), 2, entries, 3, told, 1) == CG_DONE && told[0] == 3 && entries[2] == 2, "actor_ids", "all");
-  expect(cg_clock_of(TABLES(&t), h2, 32, entries, 3, told, 1) == CG_DONE && entries[0] == 1 && entries[1] == 0 && entries[2] == 1, "clock_of", "the entry moved with its actor");
+  expect_of(cg_actor_ids(TABLES(&t), 1, entries, 0, told, 1) == CG_DONE && told[0] == 0, "actor_ids", "none is unused, and no buffer is needed");
+  expect_of(cg_actor_ids(TABLES(&t), 2, entries, 1, told, 1) == CG_SHORT_BUFFER, "actor_ids", "all, one short");
+  expect_of(cg_actor_ids(TABLES(&t), UINT64_MAX, entries, 2, told, 1) == CG_DONE && told[0] == 2 && entries[1] == 1, "actor_ids", "every number above 2 lists all");
+  expect_of(cg_insert_actor(TABLES(&t), 1) == CG_DONE, "insert_actor", "an actor without changes");
+  expect_of(cg_actor_ids(TABLES(&t), 0, entries, 3, told, 1) == CG_DONE && told[0] == 2 && entries[0] == 0 && entries[1] == 2, "actor_ids", "those with changes");
+  expect_of(cg_actor_ids(TABLES(&t), 1, entries, 3, told, 1) == CG_DONE && told[0] == 1 && entries[0] == 1, "actor_ids", "the one without");
+  expect_of(cg_actor_ids(TABLES(&t), 2, entries, 3, told, 1) == CG_DONE && told[0] == 3 && entries[2] == 2, "actor_ids", "all");
+  expect_of(cg_clock_of(TABLES(&t), h2, 32, entries, 3, told, 1) == CG_DONE && entries[0] == 1 && entries[1] == 0 && entries[2] == 1, "clock_of", "the entry moved with its actor");
 
   /* Sequence 1 with max op 9, then 2 with max op 4. */
   Graph p = graph_of(2, 1, 1, 0); /* neither depends on the other */
   Lent u = lent_of(&p);
-  expect(open_graph(&p, 1) == CG_DONE && add(&p, 1, 0, 1, 9, 1, NULL, 0) == CG_DONE && add(&p, 2, 0, 2, 4, 1, NULL, 0) == CG_DONE, "max_op", "two changes");
-  expect(cg_max_op_for_actor(TABLES(&u), 0, told, 1) == CG_DONE && told[0] == 4, "max_op_for_actor", "the last change's, not the largest");
-  expect(cg_max_op(TABLES(&u), told, 1) == CG_DONE && told[0] == 9, "max_op", "the largest");
-  expect(cg_missing(TABLES(&u), h2, 32, out, 0, told, 1) == CG_DONE && told[0] == 0, "missing", "not chained: nothing is missing though H1 is outside the history");
+  expect_of(open_graph(&p, 1) == CG_DONE && add(&p, 1, 0, 1, 9, 1, NULL, 0) == CG_DONE && add(&p, 2, 0, 2, 4, 1, NULL, 0) == CG_DONE, "max_op", "two changes");
+  expect_of(cg_max_op_for_actor(TABLES(&u), 0, told, 1) == CG_DONE && told[0] == 4, "max_op_for_actor", "the last change's, not the largest");
+  expect_of(cg_max_op(TABLES(&u), told, 1) == CG_DONE && told[0] == 9, "max_op", "the largest");
+  expect_of(cg_missing(TABLES(&u), h2, 32, out, 0, told, 1) == CG_DONE && told[0] == 0, "missing", "not chained: nothing is missing though H1 is outside the history");
 
-  expect(cg_clock_at(TABLES(&u), h2, 32, entries, 1, told, 1) == CG_DONE && entries[0] == 4, "clock_at", "the max op at the largest sequence, not the largest");
-  expect(cg_chained(TABLES(&u), told, 1) == CG_DONE && told[0] == 0, "chained", "no where sequence 2 does not name sequence 1");
+  expect_of(cg_clock_at(TABLES(&u), h2, 32, entries, 1, told, 1) == CG_DONE && entries[0] == 4, "clock_at", "the max op at the largest sequence, not the largest");
+  expect_of(cg_chained(TABLES(&u), told, 1) == CG_DONE && told[0] == 0, "chained", "no where sequence 2 does not name sequence 1");
 
   /* Two heads whose hashes descend: they are listed in the order of their hashes. */
   Graph two = graph_of(2, 0, 1, 0);
   Lent w = lent_of(&two);
-  expect(open_graph(&two, 1) == CG_DONE && add(&two, 9, 0, 1, 1, 1, NULL, 0) == CG_DONE && add(&two, 2, 0, 2, 2, 1, NULL, 0) == CG_DONE, "heads", "two changes");
-  expect(cg_heads(TABLES(&w), out, 64, told, 1) == CG_DONE && told[0] == 64 && memcmp(out, h2, 32) == 0 && memcmp(out + 32, h9, 32) == 0, "heads", "ascending");
-  expect(cg_head_indexes(TABLES(&w), entries, 2, told, 1) == CG_DONE && told[0] == 2 && entries[0] == 1 && entries[1] == 0, "head_indexes", "in the order of the hashes");
+  expect_of(open_graph(&two, 1) == CG_DONE && add(&two, 9, 0, 1, 1, 1, NULL, 0) == CG_DONE && add(&two, 2, 0, 2, 2, 1, NULL, 0) == CG_DONE, "heads", "two changes");
+  expect_of(cg_heads(TABLES(&w), out, 64, told, 1) == CG_DONE && told[0] == 64 && memcmp(out, h2, 32) == 0 && memcmp(out + 32, h9, 32) == 0, "heads", "ascending");
+  expect_of(cg_head_indexes(TABLES(&w), entries, 2, told, 1) == CG_DONE && told[0] == 2 && entries[0] == 1 && entries[1] == 0, "head_indexes", "in the order of the hashes");
 
   /* An empty graph, and room 0. */
   Graph none = graph_of(0, 0, 0, 0);
   Lent v = lent_of(&none);
-  expect(open_graph(&none, 0) == CG_DONE, "all", "room 0");
-  expect(cg_heads(TABLES(&v), out, 0, told, 1) == CG_DONE && told[0] == 0, "heads", "no heads");
-  expect(cg_clock_of(TABLES(&v), h1, 32, entries, 0, told, 1) == CG_DONE && told[0] == 0, "clock_of", "a clock of no entries");
-  expect(cg_len(TABLES(&v), told, 1) == CG_DONE && told[0] == 0, "len", "no changes");
-  expect(cg_heads_are_current(TABLES(&v), h1, 0, told, 1) == CG_DONE && told[0] == 1, "heads_are_current", "no heads are listed by no list");
-  expect(cg_chained(TABLES(&v), told, 1) == CG_DONE && told[0] == 1, "chained", "an empty graph is chained");
-  expect(cg_missing(TABLES(&v), h1, 0, out, 0, told, 1) == CG_DONE && told[0] == 0, "missing", "nothing of nothing");
+  expect_of(open_graph(&none, 0) == CG_DONE, "all", "room 0");
+  expect_of(cg_heads(TABLES(&v), out, 0, told, 1) == CG_DONE && told[0] == 0, "heads", "no heads");
+  expect_of(cg_clock_of(TABLES(&v), h1, 32, entries, 0, told, 1) == CG_DONE && told[0] == 0, "clock_of", "a clock of no entries");
+  expect_of(cg_len(TABLES(&v), told, 1) == CG_DONE && told[0] == 0, "len", "no changes");
+  expect_of(cg_heads_are_current(TABLES(&v), h1, 0, told, 1) == CG_DONE && told[0] == 1, "heads_are_current", "no heads are listed by no list");
+  expect_of(cg_chained(TABLES(&v), told, 1) == CG_DONE && told[0] == 1, "chained", "an empty graph is chained");
+  expect_of(cg_missing(TABLES(&v), h1, 0, out, 0, told, 1) == CG_DONE && told[0] == 0, "missing", "nothing of nothing");
 }
 
 /* A line of 200 changes by two actors in turn, with cached clocks on it: change k has the clock k / 2 + 1 and (k + 1) / 2. */
 static void line(void) {
   Graph g = graph_of(200, 200, 2, 0);
   Lent t = lent_of(&g);
-  expect(open_graph(&g, 2) == CG_DONE, "line", "open");
+  expect_of(open_graph(&g, 2) == CG_DONE, "line", "open");
   for (uint32_t k = 0; k < 200; k++) {
     uint32_t last = k;
-    expect(add(&g, k + 1, k % 2, k / 2 + 1, k + 1, 1, &last, k > 0 ? 1 : 0) == CG_DONE, "line", "add");
+    expect_of(add(&g, k + 1, k % 2, k / 2 + 1, k + 1, 1, &last, k > 0 ? 1 : 0) == CG_DONE, "line", "add");
   }
   uint8_t hash[32], *out = guarded(32 * 200, 0);
   uint64_t told[1];
   for (uint32_t k = 0; k < 200; k++) {
     uint32_t entries[2];
     hash_of(k + 1, hash);
-    expect(cg_clock_of(TABLES(&t), hash, 32, entries, 2, told, 1) == CG_DONE && entries[0] == k / 2 + 1 && entries[1] == (k + 1) / 2, "line", "the clock of a change");
-    expect(cg_missing(TABLES(&t), hash, 32, out, 32 * 200, told, 1) == CG_DONE && told[0] == 32 * (199 - k) && memcmp(out, g.hashes + 32 * (k + 1), told[0]) == 0, "line", "the rest is missing");
-    expect(cg_owner(TABLES(&t), k % 2, k + 1, out, 32, told, 1) == CG_DONE && memcmp(out, hash, 32) == 0, "line", "the owner of its op");
-    expect(cg_hash_to_index(TABLES(&t), hash, 32, told, 1) == CG_DONE && told[0] == k, "line", "its node");
+    expect_of(cg_clock_of(TABLES(&t), hash, 32, entries, 2, told, 1) == CG_DONE && entries[0] == k / 2 + 1 && entries[1] == (k + 1) / 2, "line", "the clock of a change");
+    expect_of(cg_missing(TABLES(&t), hash, 32, out, 32 * 200, told, 1) == CG_DONE && told[0] == 32 * (199 - k) && memcmp(out, g.hashes + 32 * (k + 1), told[0]) == 0, "line", "the rest is missing");
+    expect_of(cg_owner(TABLES(&t), k % 2, k + 1, out, 32, told, 1) == CG_DONE && memcmp(out, hash, 32) == 0, "line", "the owner of its op");
+    expect_of(cg_hash_to_index(TABLES(&t), hash, 32, told, 1) == CG_DONE && told[0] == k, "line", "its node");
   }
   unguard(out, 32 * 200);
 }
@@ -443,6 +420,5 @@ int main(void) {
   own_refusals();
   further();
   line();
-  printf("questions: %d checks, %d failed\n", checks, failures);
-  return failures != 0;
+  return summed_up("questions");
 }

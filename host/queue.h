@@ -16,7 +16,6 @@ static const size_t queue_width[4] = {1, 8, 1, 4};
 
 #define QUEUE(q) (q)->hashes, (q)->len[0], (q)->numbers, (q)->len[1], (q)->deps, (q)->len[2], (q)->count, (q)->len[3]
 #define ANSWER(q) (q)->hashes, (q)->len[0], (q)->numbers, (q)->len[1], (q)->deps, (q)->len[2]
-#define GRAPH(g) (g)->hashes, 32 * (g)->changes, (g)->nodes, 6 * (g)->changes, (g)->edges, (g)->edge_room, (g)->clocks, (g)->changes *(g)->actors, (g)->counts, 3
 
 /* Tables of these lengths, filled. */
 static inline Queue queue_long(size_t hashes, size_t numbers, size_t deps, size_t count, int fill) {

@@ -3,16 +3,7 @@
  * and place. All tables end at a page that may not be touched. */
 #include "queue.h"
 
-static int failures = 0;
-static int checks = 0;
-
-static void expect(int right, const char *what) {
-  checks++;
-  if (!right) {
-    failures++;
-    printf("failed: %s\n", what);
-  }
-}
+#include "check.h"
 
 enum { UNTOLD = 77 };
 
@@ -368,6 +359,5 @@ int main(void) {
   releasing();
   damaged();
   lengths();
-  printf("batch and queue: %d checks, %d failed\n", checks, failures);
-  return failures != 0;
+  return summed_up("batch and queue");
 }

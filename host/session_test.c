@@ -3,18 +3,9 @@
  * where anything did. */
 #include "guarded.h"
 
+#include "check.h"
+
 #include "../include/changegraph.h"
-
-static int failures = 0;
-static int checks = 0;
-
-static void expect(int right, const char *what) {
-  checks++;
-  if (!right) {
-    failures++;
-    printf("failed: %s\n", what);
-  }
-}
 
 static int all(const uint8_t *bytes, size_t size, uint8_t value) {
   for (size_t i = 0; i < size; i++) {
@@ -129,6 +120,5 @@ int main(void) {
   run_all_rooms("an unknown actor owns nothing", START "owner\t2\t1\n", "owner\t14\n");
   long_lines();
   no_room();
-  printf("session: %d checks, %d failed\n", checks, failures);
-  return failures != 0;
+  return summed_up("session");
 }
