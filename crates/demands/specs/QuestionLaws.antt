@@ -11,7 +11,7 @@ use borrow.Author.Tests.{leb-true, leb-false}
 use Rattle.paper.proofs.Bools.{by-bool}
 use Rattle.paper.specs.Graph.{Graph, change-at, owner}
 use Rattle.tables.specs.Tables.{Tables, graph}
-use Rattle.tables.specs.Valid.{Valid}
+use Rattle.tables.specs.Valid.{Lengths, Valid}
 use Rattle.answers.specs.Answers.{listed, filled, whole-list, one-hash, node-hash, node-hash-filled}
 use Rattle.answers.specs.declared.Listed.{Listed}
 use Rattle.answers.specs.declared.Listed.the-variants.{Done, Malformed, NotFound, NoOwner, Short}
@@ -31,7 +31,8 @@ use Rattle.hub_hashes.specs.Operations.{IndexToHash, HashForActorSeq}
 use Rattle.hub_deps.specs.Operations.{DepsForHash}
 use Rattle.hub_sizes.specs.Operations.{ActorIds, whichOf}
 use Rattle.asked.specs.Asks.{Reply, gives, refuses, numberOf, toldBy, ofListed, Asks}
-use Rattle.demands.specs.Demands.{stable, outcome-small}
+use Rattle.demands.specs.Operations.{Operation, open-for, Promised, Runs}
+use Rattle.demands.specs.Demands.{stable, demand-3}
 use Rattle.demands.specs.Questions.{Question, clock-of, clock-at, missing-from, owner-of, heads, head-indexes, index-to-hash, hash-for-actor-seq, deps-for-hash, actor-ids, remove-ancestors, answerOn, bufferOn, Answers}
 
 -- a refusal's number is not 0
@@ -144,3 +145,29 @@ module _ (out told : List ℕ) (r : ℕ) (out′ told′ : List ℕ) (t : Tables
 
   pub is-actor-ids : (w : ℕ) → ActorIds w out told r out′ told′ t → Answers (actor-ids (whichOf w)) out told r out′ told′ t
   is-actor-ids w p = p
+
+-- ---- demand 3 as it is asked from C
+
+-- a list that was answered with 0 stands in the buffer, and what lay past it stays
+list-answered : (l out : List ℕ) → 0 ≡ numberOf (ofListed (listed l (length out))) → filled l out ≡ l ++ drop (length l) out
+unfolding listed filled
+list-answered l out = go (leb (length l) (length out))
+  where
+    go : (b : Bool) → 0 ≡ numberOf (ofListed (cond b (Done (length l)) Short)) → cond b (l ++ drop (length l) out) out ≡ l ++ drop (length l) out
+    go true e = refl
+    go false e = absurd (omega arith)
+
+-- behind a test of what was lent
+tested-answered : (b : Bool) (l out : List ℕ) → 0 ≡ numberOf (ofListed (cond b (listed l (length out)) Malformed)) → cond b (filled l out) out ≡ l ++ drop (length l) out
+tested-answered true l out e = list-answered l out e
+tested-answered false l out e = absurd (omega arith)
+
+-- where the clock of a list is answered with 0, the buffer holds the paper's clock, an entry for each actor
+pub clock-answered : (list out told out′ told′ : List ℕ) (t : Tables) → Valid t → ClockOf list out told 0 out′ told′ t → out′ ≡ whole-clock t list ++ drop (length (whole-clock t list)) out
+unfolding clock-told clock-filled
+clock-answered list out told out′ told′ t v p = let s = p .met v in s .filled ∙ tested-answered (whole-list list) (whole-clock t list) out (s .number)
+
+-- so from opened tables on, after any operations
+pub demand-3-asked : (a : ℕ) (os : List Operation) (t t₀ t′ : Tables) → Lengths t → Promised (open-for a) t 0 t₀ → Runs t₀ os t′ → (list out told out′ told′ : List ℕ) → ClockOf list out told 0 out′ told′ t′
+    → out′ ≡ whole-clock t′ list ++ drop (length (whole-clock t′ list)) out
+demand-3-asked a os t t₀ t′ l p runs list out told out′ told′ = clock-answered list out told out′ told′ t′ (demand-3 a os t t₀ t′ l p runs .valid)
