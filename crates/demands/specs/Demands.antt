@@ -34,7 +34,7 @@ use Rattle.load.specs.DoneLaws.{loaded-refused}
 use Rattle.load.specs.Loaded.{loads}
 use Rattle.demands.specs.Operations.{Operation, open-for, add, insert-actor, remove-actor, load, forget, Lendable, numberOn, tablesOn, Promised, Runs, rest, then}
 
--- ---- what holds of valid tables, as the third demand says it, of the lists of nodes s and t
+-- ---- what holds of valid tables, as the third demand says it, of lists of nodes
 
 pub record Right (t : Tables) : Type 0 where
   pub valid : Valid t

@@ -29,8 +29,9 @@ use Rattle.hub_owner.specs.Operations.{OwnerOf}
 use Rattle.hub_heads.specs.Operations.{HeadsOf, HeadIndexes}
 use Rattle.hub_hashes.specs.Operations.{IndexToHash, HashForActorSeq}
 use Rattle.hub_deps.specs.Operations.{DepsForHash}
+use Rattle.hub_ancestors.specs.Operations.{RemoveAncestors}
 use Rattle.hub_sizes.specs.Operations.{ActorIds, whichOf}
-use Rattle.asked.specs.Asks.{Reply, gives, refuses, numberOf, toldBy, ofListed, Asks}
+use Rattle.asked.specs.Asks.{Reply, gives, refuses, numberOf, toldBy, ofListed, Asks, Tells}
 use Rattle.demands.specs.Operations.{Operation, open-for, Promised, Runs}
 use Rattle.demands.specs.Demands.{stable, demand-3}
 use Rattle.demands.specs.Questions.{Question, clock-of, clock-at, missing-from, owner-of, heads, head-indexes, index-to-hash, hash-for-actor-seq, deps-for-hash, actor-ids, remove-ancestors, answerOn, bufferOn, Answers}
@@ -113,6 +114,14 @@ module _ (q : Question) (out told : List ℕ) (r : ℕ) (out′ told′ : List �
       listed-small NoOwner = omega arith
       listed-small Short = omega arith
 
+-- the questions without a buffer
+pub tells-keeps : {L : Type 0} (of : L → Reply) (answer : Tables → L) (told : List ℕ) (r : ℕ) (told′ : List ℕ) (t : Tables) → Tells of answer told r told′ t → (r ≡ 0 → ⊥) → told′ ≡ told
+tells-keeps of answer told r told′ t p n =
+    stable told′ told
+    (λ d.
+    let u = p .unmet (λ v. let s = p .met v in d (s .places ∙ untold (of (answer t)) told (λ z. n (s .number ∙ z)))) in
+    d (u .2))
+
 -- ---- each question's public promise is this one
 
 module _ (out told : List ℕ) (r : ℕ) (out′ told′ : List ℕ) (t : Tables) where
@@ -145,6 +154,9 @@ module _ (out told : List ℕ) (r : ℕ) (out′ told′ : List ℕ) (t : Tables
 
   pub is-actor-ids : (w : ℕ) → ActorIds w out told r out′ told′ t → Answers (actor-ids (whichOf w)) out told r out′ told′ t
   is-actor-ids w p = p
+
+  pub is-remove-ancestors : (l hs : List ℕ) → RemoveAncestors l hs out told r out′ told′ t → Answers (remove-ancestors l hs) out told r out′ told′ t
+  is-remove-ancestors l hs p = p
 
 -- ---- demand 3 as it is asked from C
 
