@@ -12,10 +12,10 @@ use lib.Seq.{getD-set-same, getD-set-other, take-at}
 use borrow.Author.Tests.{eqb-true, eqb-false, eq-eqb, lt-ltb, ltb-true}
 use Rattle.paper.specs.Lists.{mem, pick, some-below, hashAt, hashes-from, hashes-of, each-below}
 use Rattle.paper.specs.Graph.{Graph, node, nodes, known, hist, clock, Valid}
-use Rattle.paper.proofs.Bools.{by-bool, to-false, not-both, same-bool, and-both, and-fst, and-snd, mem-append, mem-nil, mem-cons, mem-pick, pick-mem, mem-getD}
-use Rattle.paper.proofs.History.{hist-start, hist-least}
-use Rattle.paper.proofs.Clock.{hist-mono, clock-least}
-use Rattle.paper.proofs.Walk.{clock-mono}
+use Rattle.paper.proofs.Bools.{by-bool, to-false, same-bool, and-both, and-fst, and-snd, mem-append, mem-nil, mem-cons, mem-pick, pick-mem, mem-getD}
+use Rattle.paper.proofs.History.{hist-start}
+use Rattle.paper.proofs.Clock.{hist-mono}
+use Rattle.paper.proofs.Walk.{clock-mono, clock-nil}
 use Rattle.walk.specs.Marks.{marked}
 use Rattle.walk.specs.Whole.{cleared}
 use Rattle.answers.specs.SlotLaws.{hashes-split}
@@ -175,16 +175,13 @@ starts-clock g v bytes {out₀} {out} {c} h w =
 
 -- ---- an empty list: nothing is in its history
 
-nothing-in : (g : Graph) (k : ℕ) → hist g [] k ≡ true → ⊥
-nothing-in g = hist-least g (λ (k : ℕ). ⊥) (λ k j p d. p) [] (λ k l e. not-both e (mem-nil k))
-
 empty-nodes : (g : Graph) (bytes : List ℕ) → length bytes ≡ 0 → nodes g (hashes-of bytes) ≡ []
 unfolding nodes hashes-of hashes-from
 empty-nodes g bytes e = rw e
 
-pub empty-clock : (g : Graph) → Valid g → (bytes : List ℕ) → length bytes ≡ 0 → (n : ℕ) → replicate n 0 ≡ each-below (clock-entries g bytes) n
+pub empty-clock : (g : Graph) (v : Valid g) (bytes : List ℕ) → length bytes ≡ 0 → (n : ℕ) → replicate n 0 ≡ each-below (clock-entries g bytes) n
 unfolding clock-entries
 empty-clock g v bytes e n =
     rw (empty-nodes g bytes e)
     (to-each (clock g []) n (replicate n 0) (length-replicate {A = ℕ} n 0)
-    (λ i l. let z = clock-least g v [] i 0 (λ k h q. absurd (nothing-in g k h)) in cleared n i ∙ omega arith))
+    (λ i l. cleared n i ∙ sym (clock-nil g v i)))

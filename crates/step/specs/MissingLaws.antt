@@ -1,14 +1,14 @@
 -- Laws of what a `missing` line answers.
 -- Assumes nothing.
 use mathlib.Core.Path.{_≡_, refl, sym, ap, _∙_, subst}
-use mathlib.Core.Bool.{Bool, true}
+use mathlib.Core.Bool.{Bool, true, false, cond}
 use mathlib.Core.List.{List, [], _∷_, _++_, map}
 use Prim.Native.Nat.{ℕ, zero, suc, _+_, _*_, _/_, _%_, _≤_, _<_}
 use native.Mathlib.Omega.{arith}
-use lib.Dec.{eqb}
+use lib.Dec.{eqb, leb}
 use lib.ListN.{length, take, drop, length-append, length-take}
 use lib.Seq.{take-at}
-use borrow.Author.Tests.{lt-ltb, eqb-true, eqb-false}
+use borrow.Author.Tests.{lt-ltb, eqb-true, eqb-false, leb-true}
 use Rattle.paper.specs.Lists.{hashAt, hashes-from, hashes-of, every}
 use Rattle.paper.specs.Text.{flat, listText}
 use Rattle.paper.specs.Graph.{nodes, clock, above, missing as missing-of}
@@ -22,6 +22,8 @@ use Rattle.tables.specs.Tables.{Tables, changes, actorAt, seqAt, graph}
 use Rattle.tables.specs.Valid.{Valid, Running}
 use Rattle.tables.specs.DepsLaws.{valid-graph}
 use Rattle.judge.specs.Hub.{hub}
+use Rattle.answers.specs.Answers.{listed}
+use Rattle.answers.specs.declared.Listed.the-variants.{Done, Short}
 use Rattle.answers.specs.AnswerLaws.{listed-done, filled-done}
 use Rattle.answers.specs.Entering.{Wide, wide-cons}
 use Rattle.answers.specs.Picking.{rest-of, rest-all, hashes-length}
@@ -49,6 +51,15 @@ all-rest : (hs : List ℕ) (p : ℕ → Bool) (n : ℕ) → ((j : ℕ) → j < n
 unfolding rest-of hashes-from
 all-rest hs p n all zero k l = refl
 all-rest hs p n all (suc left) k l = rw (all k (omega arith)) (ap (λ (r : List (List ℕ)). hashAt hs k ∷ r) (all-rest hs p n all left (suc k) (omega arith)))
+
+-- a list that was answered fits
+done-fits : (l : List ℕ) (room n : ℕ) → listed l room ≡ Done n → length l ≤ room
+unfolding listed
+done-fits l room n = go (leb (length l) room) refl
+  where
+    go : (b : Bool) → leb (length l) room ≡ b → cond b (Done (length l)) Short ≡ Done n → length l ≤ room
+    go true y e = leb-true (length l) room y
+    go false y e = let z : _≡_ {A = ℕ} 0 1 = cc in absurd (omega arith)
 
 module _ (t : Tables) (v : Valid t) where
   -- nothing is had: every sequence is above 0
@@ -98,6 +109,27 @@ module _ (t : Tables) (v : Valid t) where
 
     none-long : length have ≡ 0 → length (flat lacked) ≡ 32 * changes t
     none-long z = let h = room t v .hashes-in in ap length (none-had z) ∙ length-take (32 * changes t) (t .hashes) ∙ omega arith
+
+    -- whenever the missing list is answered with 0, in any buffer, what is shown is the list: a part of the table or of the buffer
+    module _ (whole : length have % 32 ≡ 0) (buffer : List ℕ) (n : ℕ) (e : missing-told (graph t) have (length buffer) ≡ Done n) where
+      shown-none : length have ≡ 0 → shown (t .hashes) (missing-filled (graph t) have buffer) have n ≡ missing-hashes (graph t) have
+      shown-none z =
+          let h : Done n ≡ Done (32 * changes t) = sym e ∙ empty-told (graph t) have whole z (length buffer) in
+          let q : n ≡ 32 * changes t = cc in
+          shown-table (t .hashes) (missing-filled (graph t) have buffer) have n z ∙ ap (λ (k : ℕ). take k (t .hashes)) q ∙ sym (none-had z) ∙ sym bytes-are
+
+      shown-some : (length have ≡ 0 → ⊥) → shown (t .hashes) (missing-filled (graph t) have buffer) have n ≡ missing-hashes (graph t) have
+      shown-some z =
+          let h : listed (missing-hashes (graph t) have) (length buffer) ≡ Done n = sym (list-told (graph t) have whole z (length buffer)) ∙ e in
+          let l = done-fits (missing-hashes (graph t) have) (length buffer) n h in
+          let d : Done n ≡ Done (length (missing-hashes (graph t) have)) = sym h ∙ listed-done (missing-hashes (graph t) have) (length buffer) l in
+          let q : n ≡ length (missing-hashes (graph t) have) = cc in
+          shown-answer (t .hashes) (missing-filled (graph t) have buffer) have n z
+          ∙ ap (take n) (list-filled (graph t) have whole z buffer ∙ filled-done (missing-hashes (graph t) have) buffer l)
+          ∙ take-at (missing-hashes (graph t) have) (drop (length (missing-hashes (graph t) have)) buffer) n (sym q)
+
+      pub shown-missing : shown (t .hashes) (missing-filled (graph t) have buffer) have n ≡ missing-hashes (graph t) have
+      shown-missing = by-bool (eqb (length have) 0) (λ y. shown-none (eqb-true (length have) 0 y)) (λ o. shown-some (eqb-false (length have) 0 o))
 
     -- what is asked of the missing core, and what is shown
     module _ (b : Bench (hub t)) (whole : length have % 32 ≡ 0) (buffer : List ℕ) (long : length buffer ≡ 8192) (n : ℕ) (e : n ≡ countOf (missing-told (graph t) have (length buffer))) (list : List ℕ) (f : list ≡ missing-filled (graph t) have buffer) where
