@@ -16,8 +16,8 @@ fi
 source="${AUTOMERGE_SRC:-oracle/../../shared/docs/src}"
 export AUTOMERGE_SRC
 AUTOMERGE_SRC="$(cd "$source" && pwd)"
-rt staticlib bare >/dev/null 2>&1
-cp target/libchangegraph.a target/staticlib/libbare.a target/benchmarks/
+rt staticlib benchmark_cores >/dev/null 2>&1
+cp target/libchangegraph.a target/staticlib/libbenchmark_cores.a target/benchmarks/
 export CHANGEGRAPH_LIB="$PWD/target/benchmarks" CARGO_TARGET_DIR="$PWD/target/oracle"
 (cd oracle && cargo build --profile plain --offline --quiet --features archive)
 program=target/oracle/plain/oracle

@@ -1,31 +1,18 @@
-# Sourced by scripts that build C programs against the archives, which are for x86-64: sets CC, RUN and MEMCHECK.
-# On x86-64 the machine's own cc builds, programs run as they are, and under valgrind where it is installed. On any other processor a
-# cross compiler builds and an emulator runs; both are Debian packages, installed here where they are missing and the script may do so.
-case "$(uname -m)" in
-x86_64)
+# Sourced by scripts that build C programs against the archives, which are for x86-64: sets CC, CFLAGS, RUN and MEMCHECK; CC is empty where no compiler can be had.
+# On x86-64 the machine's own cc builds, and programs run as they are and under valgrind. On any other processor a cross compiler builds, an emulator
+# runs, and there is no valgrind. What is missing is a Debian package, and is installed where this user may do so.
+. host/machine.sh
+RUN=""
+MEMCHECK=""
+if [ "$(uname -m)" = x86_64 ]; then
   CC="${CC:-cc}"
-  RUN=""
-  if command -v valgrind >/dev/null 2>&1; then
+  need "$CC" gcc libc6-dev || CC=""
+  if [ -n "$CC" ] && need valgrind valgrind libc6-dbg; then
     MEMCHECK="valgrind --quiet --error-exitcode=99 --leak-check=full"
-  else
-    MEMCHECK=""
   fi
-  ;;
-*)
-  if ! command -v x86_64-linux-gnu-gcc >/dev/null 2>&1 || ! command -v qemu-x86_64 >/dev/null 2>&1; then
-    if [ "$(id -u)" = 0 ] && command -v apt-get >/dev/null 2>&1; then
-      apt-get update -qq >/dev/null 2>&1 || true
-      apt-get install -y -qq --no-install-recommends gcc-x86-64-linux-gnu libc6-dev-amd64-cross qemu-user >/dev/null 2>&1 || true
-    fi
-  fi
-  if command -v x86_64-linux-gnu-gcc >/dev/null 2>&1 && command -v qemu-x86_64 >/dev/null 2>&1; then
-    CC=x86_64-linux-gnu-gcc
-    RUN="qemu-x86_64 -L /usr/x86_64-linux-gnu"
-  else
-    CC=""
-    RUN=""
-  fi
-  MEMCHECK=""
-  ;;
-esac
+else
+  CC=x86_64-linux-gnu-gcc
+  RUN="$EMULATOR -L /usr/x86_64-linux-gnu"
+  need "$CC" gcc-x86-64-linux-gnu libc6-dev-amd64-cross || CC=""
+fi
 CFLAGS="-std=c11 -O2 -g -Wall -Wextra -Werror"

@@ -59,10 +59,10 @@ fn item(text: &str, start: &str) -> String {
 fn main() {
     if env::var("CARGO_FEATURE_ARCHIVE").is_ok() {
         println!("cargo:rerun-if-env-changed=CHANGEGRAPH_LIB");
-        let dir = env::var("CHANGEGRAPH_LIB").expect("CHANGEGRAPH_LIB names the folder of libchangegraph.a and libbare.a");
+        let dir = env::var("CHANGEGRAPH_LIB").expect("CHANGEGRAPH_LIB names the folder of libchangegraph.a and libbenchmark_cores.a");
         println!("cargo:rustc-link-search=native={dir}");
         println!("cargo:rustc-link-lib=static=changegraph");
-        println!("cargo:rustc-link-lib=static=bare");
+        println!("cargo:rustc-link-lib=static=benchmark_cores");
     }
     println!("cargo:rerun-if-env-changed=AUTOMERGE_SRC");
     println!("cargo:rerun-if-changed=build.rs");

@@ -1,16 +1,26 @@
 #!/usr/bin/env bash
 # Compares the archive with the Rust and the paper's definitions over random operations: compare.sh [SEED ROUNDS]. Needs target/libchangegraph.a (host/archive.sh).
-# Without cargo, a C compiler that builds for this machine, or the Rust text there is nothing to compare with: it says so, and that is no failure.
+# Without cargo, a C compiler that builds for this machine, or the Rust text there is nothing to compare with, and it says so. compare.sh --ready only tells whether all is here.
 set -euo pipefail
 cd "$(dirname "$0")/.."
+. tools/report.sh
 . host/toolchain.sh
-seed="${1:-7}"
-rounds="${2:-60}"
 source="${AUTOMERGE_SRC:-oracle/../../shared/docs/src}"
-if ! command -v cargo >/dev/null 2>&1 || [ -z "$CC" ] || [ ! -d "$source" ]; then
-  echo "oracle: cargo, a C compiler or the Rust text is not here, so nothing is compared"
+lacks=""
+need cargo cargo || lacks="no cargo"
+[ -n "$CC" ] || lacks="no C compiler for x86-64"
+[ -d "$source" ] || lacks="no Rust text: AUTOMERGE_SRC is to name the folder of automerge's src/"
+if [ "${1:-}" = --ready ]; then
+  [ -z "$lacks" ] || echo "$lacks"
+  [ -z "$lacks" ]
+  exit
+fi
+if [ -n "$lacks" ]; then
+  left_out "the comparison with the Rust ($lacks)"
   exit 0
 fi
+seed="${1:-7}"
+rounds="${2:-60}"
 export AUTOMERGE_SRC
 AUTOMERGE_SRC="$(cd "$source" && pwd)"
 export CARGO_TARGET_DIR="$PWD/target/oracle"
@@ -36,3 +46,4 @@ for each in $(seq "$seed" $((seed + 39))); do
   sessions=$((sessions + 1))
 done
 echo "sessions from seed $seed on: $sessions the same"
+ran "the comparison with the Rust"

@@ -80,7 +80,7 @@ def read_description(path):
         d["relation"] = d["question"]
         d["refusal"] = f"Untouched {ends.rstrip('′')} told r {ends} told′"
         d["refused"] = "asks-refused _ _ _ _ _ (lent hashes nodes edges clocks counts) _ _ _"
-        d["use"] += ["Rattle.asked.specs.Asks.{Untouched}", "Rattle.asked.specs.AsksLaws.{asks-refused}"]
+        d["use"] += ["Rattle.hub_answer.specs.Asks.{Untouched}", "Rattle.hub_answer.specs.AsksLaws.{asks-refused}"]
     return d
 
 
@@ -840,7 +840,7 @@ class Question:
         source = open(os.path.join(root, "crates", crate, "src", "lib.rt"), encoding="utf-8").read()
         self.crate, self.name = crate, operation[3:]
         self.muts = [p.name for p in read_operation(source, operation)[0] if p.kind == "mut"]
-        found = re.search(r"\bfn " + self.name + r"_checked\(.*?let \w+ = ([\w:]+)\(.*?asked::(\w+)\(", source, re.S)
+        found = re.search(r"\bfn " + self.name + r"_checked\(.*?let \w+ = ([\w:]+)\(.*?hub_answer::(\w+)\(", source, re.S)
         if not found:
             raise SystemExit(f"opgen: {self.name}_checked is not of the shape that README.md gives")
         self.core, self.teller = found.group(1).split("::")[-1], found.group(2)
@@ -867,7 +867,7 @@ class Question:
         both = f"{told} .0) {told} .1)" if buffer else f"{told}) refl"
         given = f"({chain(2)} .{self.teller.replace('_', '-')} .ensures"
         return self.file(self.name + "_checked", "on valid tables the number, the buffer and what is told are the core's, and else nothing changes.",
-                         ["mathlib.Core.Path.{refl}", "borrow.Author.Tests.{not-true, not-false}", "Rattle.asked.specs.AsksLaws.{asks-invalid, asks-valid}"],
+                         ["mathlib.Core.Path.{refl}", "borrow.Author.Tests.{not-true, not-false}", "Rattle.hub_answer.specs.AsksLaws.{asks-invalid, asks-valid}"],
                          [("valid-requires", "c κs", "search needs"),
                           ("returns", "c", f"asks-invalid _ _ _ _ _ _ ({chain(1)} .valid .ensures) (not-true _ (c .if1 .taken))"),
                           (f"{core}-requires", "c κs", valid(1)[1:-1] if buffer else valid(0)[1:-1]),

@@ -1,18 +1,21 @@
 -- What the changed tables hold at each place, and the steps of the loops that change them.
 -- Assumes nothing.
-use mathlib.Core.Path.{_≡_, refl, sym, ap, subst, fun-ext, _∙_}
-use mathlib.Core.Bool.{Bool, true, false, cond}
-use mathlib.Core.List.{List, [], _∷_}
+use mathlib.Core.Path.{_≡_, refl, sym, ap, ap₂, fun-ext, _∙_}
+use mathlib.Core.Logic.{⊎-elim}
+use mathlib.Core.Bool.{cond}
+use mathlib.Core.List.{List, [], _∷_, _++_, append-assoc}
 use Prim.Native.Nat.{ℕ, zero, suc, _+_, _*_, _-_, _≤_, _<_}
 use native.Mathlib.Numerals.{add-one}
 use native.Mathlib.Nat.{mul-le-mul-right, suc-mul}
 use native.Mathlib.Omega.{arith}
-use native.Mathlib.Decide.{decLt}
-use lib.Dec.{eqb, ltb, leb}
-use lib.ListN.{length, getD, set, length-set}
-use lib.Seq.{getD-set-same, getD-set-other, set-getD, ext-getD}
-use borrow.Author.Tests.{ltb-true, ltb-false, lt-ltb, le-ltb, le-leb, lt-leb, eq-eqb, ne-eqb}
-use Rattle.paper.proofs.Bools.{by-bool, below-suc}
+use lib.Dec.{ltb}
+use lib.ListN.{length, getD, set, take, drop, length-set, length-take, length-drop}
+use lib.Seq.{getD-set-same, getD-set-other, getD-take, getD-drop, take-all, drop-drop, paste, paste-zero, paste-suc}
+use borrow.Author.Tests.{lt-ltb, le-ltb, le-leb, lt-leb, eq-eqb, ne-eqb}
+use Rattle.paper.proofs.Bools.{below-suc}
+use Rattle.list_laws.specs.Cases.{below-or-not, three-ways}
+use Rattle.clock.specs.Clock as clock
+use Rattle.clock.specs.Places.{length-inserted, inserted-low, inserted-here, inserted-high, length-removed, removed-low, removed-high, removed-free}
 use Rattle.tables.specs.Tables.{Tables, changes, actors, changeRoom, actorRoom, actorAt}
 use Rattle.tables.specs.Valid.{countOf, Numbers, Valid}
 use Rattle.actors.specs.declared.Numbered.the-variants.{Done, NoActor, HasChanges, NoRoom}
@@ -79,17 +82,6 @@ module _ (b : ℕ) (s : ℕ → ℕ) (cs : List ℕ) where
       (λ h. getD-set-other (filled b s m cs) (b + m) (b + i) (s m) 0 (λ q. omega arith) ∙ filled-in m i (omega arith) h)
       (getD-set-same (filled b s m cs) (b + m) (s m) 0 (let z = filled-long m in omega arith))
 
-  -- what stands there already is written
-  pub filled-same : (m : ℕ) → ((i : ℕ) → i < m → s i ≡ getD cs (b + i) 0) → cs ≡ filled b s m cs
-  unfolding filled
-  filled-same zero h = refl
-  filled-same (suc m) h =
-      sym (set-getD cs (b + m) 0) ∙ ap (set cs (b + m)) (sym (h m (omega arith))) ∙ ap (λ (l : List ℕ). set l (b + m) (s m)) (filled-same m (λ i l. h i (omega arith)))
-
-  pub filled-next : (m v : ℕ) → v ≡ s m → set (filled b s m cs) (b + m) v ≡ filled b s (m + 1) cs
-  unfolding filled
-  filled-next m v e = rw (add-one m) (ap (set (filled b s m cs) (b + m)) e)
-
 -- ---- rows
 
 module _ (s : (ℕ → ℕ) → ℕ → ℕ) (w : ℕ) (cs : List ℕ) where
@@ -152,76 +144,69 @@ module _ (s : (ℕ → ℕ) → ℕ → ℕ) (w n : ℕ) (cs : List ℕ) where
   pub passing-end : {k : ℕ} {cs′ : List ℕ} → Passing s w n cs k cs′ → n ≤ k → cs′ ≡ rowsBy s w n cs
   passing-end {k} v l = let h = v .high in let e : k ≡ n = omega arith in v .same ∙ ap (λ (m : ℕ). rowsBy s w m cs) e
 
--- ---- one step in a row of w entries from b on
+-- ---- the row of w entries from b on, lent: what a function gets that is lent `&mut cs[b..b + w]`, and cs once the row is put back
 
--- cs′ is cs with its first i entries there widened, and `carry` is the next
-pub record Widening (cs : List ℕ) (b w p carry i : ℕ) (cs′ : List ℕ) : Type 0 where
-  pub low : p ≤ i
-  pub high : i ≤ w
-  pub long : length cs′ ≡ length cs
-  pub same : cs′ ≡ filled b (widen p (rowAt cs b w)) i cs
-  pub carried : carry ≡ widen p (rowAt cs b w) i
+abbrev lent : ℕ → ℕ → List ℕ → List ℕ
+lent b w cs = take (b + w - b) (drop b cs)
 
-module _ (cs : List ℕ) (b w p : ℕ) where
-  pub widening-start : p ≤ w → Widening cs b w p 0 p cs
-  widening-start l =
-      record {
-        low = omega arith;
-        high = l;
-        long = refl;
-        same = filled-same b (widen p (rowAt cs b w)) cs p (λ i h. rw (lt-ltb i p h, lt-ltb i w (omega arith)));
-        carried = rw (le-ltb p p (omega arith), eq-eqb p p refl);
-      }
+abbrev put : ℕ → ℕ → List ℕ → List ℕ → List ℕ
+put b w cs row = take b cs ++ (row ++ drop (b + w - b) (drop b cs))
 
-  pub widening-next : {carry i : ℕ} {cs′ : List ℕ} → Widening cs b w p carry i cs′ → i < w → Widening cs b w p (getD cs′ (b + i) 0) (i + 1) (set cs′ (b + i) carry)
-  widening-next {carry} {i} {cs′} v l =
-      record {
-        low = let z = v .low in omega arith;
-        high = omega arith;
-        long = length-set cs′ (b + i) carry ∙ v .long;
-        same = ap (λ (l : List ℕ). set l (b + i) carry) (v .same) ∙ filled-next b (widen p (rowAt cs b w)) cs i carry (v .carried);
-        carried =
-            ap (λ (l : List ℕ). getD l (b + i) 0) (v .same) ∙ filled-high b (widen p (rowAt cs b w)) cs i (b + i) (omega arith)
-            ∙ (let z = v .low in let e : i + 1 - 1 ≡ i = omega arith in rw (le-ltb (i + 1) p (omega arith), ne-eqb (i + 1) p (λ q. omega arith), e, lt-ltb i w l));
-      }
+module _ (cs : List ℕ) (b w : ℕ) (fits : b + w ≤ length cs) where
+  lent-long : length (lent b w cs) ≡ w
+  lent-long = simp (length-take, length-drop) (omega arith)
 
-  pub widening-end : {carry i : ℕ} {cs′ : List ℕ} → Widening cs b w p carry i cs′ → w ≤ i → cs′ ≡ filled b (widen p (rowAt cs b w)) w cs
-  widening-end {carry} {i} {cs′} v l = let z = v .high in let e : i ≡ w = omega arith in v .same ∙ ap (λ (m : ℕ). filled b (widen p (rowAt cs b w)) m cs) e
+  lent-at : (i : ℕ) → i < w → getD (lent b w cs) i 0 ≡ getD cs (b + i) 0
+  lent-at i l = getD-take (b + w - b) (drop b cs) i 0 (omega arith) ∙ getD-drop b cs i 0
 
--- cs′ is cs with its first i entries there narrowed
-pub record Narrowing (cs : List ℕ) (b w p i : ℕ) (cs′ : List ℕ) : Type 0 where
-  pub low : p ≤ i
-  pub high : i < w
-  pub long : length cs′ ≡ length cs
-  pub same : cs′ ≡ filled b (narrow p (rowAt cs b w)) i cs
+  -- a row that holds s 0, s 1, ..: its first m entries are put back, and all are
+  module _ (s : ℕ → ℕ) (row : List ℕ) (long : length row ≡ w) (holds : (i : ℕ) → i < w → getD row i 0 ≡ s i) where
+    some-back : (m : ℕ) → m ≤ w → paste cs b row m ≡ filled b s m cs
+    unfolding filled
+    some-back zero l = sym (paste-zero cs b row)
+    some-back (suc m) l = sym (paste-suc cs b row m 0 (omega arith) (omega arith)) ∙ ap₂ (λ (c : List ℕ) (v : ℕ). set c (b + m) v) (some-back m (omega arith)) (holds m l)
 
-module _ (cs : List ℕ) (b w p : ℕ) where
-  pub narrowing-start : p < w → Narrowing cs b w p p cs
-  narrowing-start l =
-      record { low = omega arith; high = l; long = refl; same = filled-same b (narrow p (rowAt cs b w)) cs p (λ i h. rw (lt-ltb i p h, lt-ltb i w (omega arith))) }
+    all-back : put b w cs row ≡ filled b s w cs
+    all-back =
+        let k : b + w - b ≡ w = omega arith in
+        rw (k, drop-drop w b cs, ← append-assoc (take b cs) row (drop (b + w) cs), ← take-all w row (omega arith)) (some-back w (omega arith))
 
-  pub narrowing-next : {i : ℕ} {cs′ : List ℕ} → Narrowing cs b w p i cs′ → i + 1 < w → Narrowing cs b w p (i + 1) (set cs′ (b + i) (getD cs′ (b + i + 1) 0))
-  narrowing-next {i} {cs′} v l =
-      let z = v .low in
-      let e : b + i + 1 ≡ b + suc i = omega arith in
-      record {
-        low = omega arith;
-        high = l;
-        long = length-set cs′ (b + i) (getD cs′ (b + i + 1) 0) ∙ v .long;
-        same =
-            ap (λ (l : List ℕ). set l (b + i) (getD l (b + i + 1) 0)) (v .same)
-            ∙ filled-next b (narrow p (rowAt cs b w)) cs i (getD (filled b (narrow p (rowAt cs b w)) i cs) (b + i + 1) 0)
-            (filled-high b (narrow p (rowAt cs b w)) cs i (b + i + 1) (omega arith) ∙ ap (λ (j : ℕ). getD cs j 0) e ∙ rw (le-ltb i p (omega arith), lt-ltb (suc i) w (omega arith)));
-      }
+  -- it is the clocks' shift that opens place p, and closes it
+  pub widened : {p : ℕ} {row : List ℕ} → p < w → row ≡ clock.inserted (lent b w cs) (w - 1) p → put b w cs row ≡ filled b (widen p (rowAt cs b w)) w cs
+  widened {p} {row} l e = rw e (all-back _ (clock.inserted (lent b w cs) (w - 1) p) (length-inserted (lent b w cs) _ _ low long ∙ lent-long) at)
+    where
+      low : p ≤ w - 1
+      low = omega arith
 
-  pub narrowing-end : {i : ℕ} {cs′ : List ℕ} → Narrowing cs b w p i cs′ → w ≤ i + 1 → set cs′ (b + i) 0 ≡ filled b (narrow p (rowAt cs b w)) w cs
-  narrowing-end {i} {cs′} v l =
-      let z = v .low in
-      let y = v .high in
-      let e : i + 1 ≡ w = omega arith in
-      ap (λ (l : List ℕ). set l (b + i) 0) (v .same)
-      ∙ filled-next b (narrow p (rowAt cs b w)) cs i 0 (rw (le-ltb i p (omega arith), le-ltb (suc i) w (omega arith)))
-      ∙ ap (λ (m : ℕ). filled b (narrow p (rowAt cs b w)) m cs) e
+      long : w - 1 < length (lent b w cs)
+      long = omega (arith, lent-long)
+
+      high : (i : ℕ) → i < w → p < i → getD (clock.inserted (lent b w cs) (w - 1) p) i 0 ≡ widen p (rowAt cs b w) i
+      high zero h q = absurd (omega arith)
+      high (suc i) h q =
+          let z : suc i - 1 ≡ i = omega arith in
+          rw (le-ltb (suc i) p (omega arith), ne-eqb (suc i) p (λ e. omega arith), z, lt-ltb i w (omega arith)) (inserted-high _ _ _ low long i (omega arith) (omega arith) ∙ lent-at i (omega arith))
+
+      at : (i : ℕ) → i < w → getD (clock.inserted (lent b w cs) (w - 1) p) i 0 ≡ widen p (rowAt cs b w) i
+      at i h =
+          ⊎-elim (λ q. rw (lt-ltb i p q, lt-ltb i w h) (inserted-low _ _ _ low long i q ∙ lent-at i h))
+          (⊎-elim (λ q. rw (le-ltb i p (omega arith), eq-eqb i p q, q) (inserted-here _ _ _ low long)) (high i h))
+          (three-ways i p)
+
+  pub narrowed : {p : ℕ} {row : List ℕ} → p < w → row ≡ clock.removed (lent b w cs) w p → put b w cs row ≡ filled b (narrow p (rowAt cs b w)) w cs
+  narrowed {p} {row} l e = rw e (all-back _ (clock.removed (lent b w cs) w p) (length-removed (lent b w cs) _ _ l long ∙ lent-long) at)
+    where
+      long : w ≤ length (lent b w cs)
+      long = omega (arith, lent-long)
+
+      at : (i : ℕ) → i < w → getD (clock.removed (lent b w cs) w p) i 0 ≡ narrow p (rowAt cs b w) i
+      at i h =
+          ⊎-elim (λ q. rw (lt-ltb i p q, lt-ltb i w h) (removed-low _ _ _ l long i q ∙ lent-at i h))
+          (λ q.
+          ⊎-elim (λ y. rw (le-ltb i p q, lt-ltb (suc i) w y) (removed-high _ _ _ l long i q y ∙ lent-at (suc i) y))
+          (λ n. rw (le-ltb i p q, le-ltb (suc i) w n) (removed-free _ _ _ l long i (omega arith)))
+          (below-or-not (suc i) w))
+          (below-or-not i p)
 
 -- ---- the answers, each from its condition
 

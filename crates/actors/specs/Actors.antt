@@ -6,6 +6,7 @@ use Prim.Native.Nat.{ℕ, zero, suc, _+_, _*_, _-_}
 use lib.Dec.{eqb, ltb, leb}
 use lib.ListN.{getD, set}
 use Rattle.paper.specs.Numbers.{Outcome, number, done, no-actor, actor-has-changes, no-actor-room}
+use Rattle.clock.specs.Clock.{raised}
 use Rattle.tables.specs.Tables.{Tables, changes, actors, actorRoom, actorAt}
 use Rattle.tables.specs.Valid.{countOf}
 use Rattle.actors.specs.declared.Numbered.{Numbered}
@@ -36,11 +37,7 @@ inserting t p = cond (leb p (actors t) && ltb (actors t) (actorRoom t)) Done NoR
 unfoldable pub removing : Tables → ℕ → Numbered
 removing t p = cond (leb (actors t) p) NoActor (cond (eqb (countOf (t .nodes) p (changes t)) 0) Done HasChanges)
 
--- ---- numbers and clocks, where an actor comes in or goes at place p
-
--- numbers p and above move up by one
-abbrev pub raise : ℕ → ℕ → ℕ
-raise p a = cond (ltb a p) a (suc a)
+-- ---- numbers and clocks, where an actor comes in at place p (numbers p and above move up by one: `raised p`) or goes
 
 -- numbers above p move down by one
 abbrev pub lower : ℕ → ℕ → ℕ
@@ -87,7 +84,7 @@ renamed f s a t =
     }
 
 abbrev pub inserted : Tables → ℕ → Tables
-inserted t p = renamed (raise p) (widen p) (actors t + 1) t
+inserted t p = renamed (raised p) (widen p) (actors t + 1) t
 
 abbrev pub removed : Tables → ℕ → Tables
 removed t p = renamed (lower p) (narrow p) (actors t - 1) t

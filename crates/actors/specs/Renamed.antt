@@ -11,17 +11,20 @@ use lib.ListN.{length, getD, set, length-set}
 use lib.Seq.{getD-set-same, getD-set-other}
 use borrow.Author.Tests.{ltb-true, ltb-false, lt-ltb, le-ltb, le-leb, lt-leb, leb-true, leb-false, eq-eqb, ne-eqb, eqb-true, eqb-false}
 use Rattle.paper.specs.Lists.{mem, tally, some-below}
-use Rattle.paper.specs.Graph.{Graph, clock, wanted, Relabels, Valid as ValidGraph}
+use Rattle.paper.specs.Graph.{Graph, clock, wanted, Valid as ValidGraph}
+use Rattle.paper.specs.ProofWords.{Relabels}
 use Rattle.paper.proofs.Bools.{by-bool, below-or-not, tally-up, some-ext}
 use Rattle.paper.proofs.Clock.{clock-least}
 use Rattle.paper.proofs.History.{hist-known}
 use Rattle.paper.proofs.Relabel.{valid-relabel, clock-relabel, clock-relabel-new}
+use Rattle.clock.specs.Clock.{raised}
+use Rattle.clock.specs.Places.{raised-low, raised-high}
 use Rattle.tables.specs.Tables.{Tables, changes, edges, actors, changeRoom, actorRoom, widthOf, actorAt, headAt, entryAt, along, graph}
 use Rattle.tables.specs.Valid.{Lengths, Counts, Distinct, NumbersAt, Numbers, Laid, Running, Heads, Rows, Sound, Valid, countOf}
 use Rattle.tables.specs.LaidLaws.{laid-same}
 use Rattle.tables.specs.DepsLaws.{valid-graph}
 use Rattle.actors.specs.declared.Numbered.the-variants.{Done}
-use Rattle.actors.specs.Actors.{raise, lower, widen, narrow, renumbered, rowAt, rowsBy, renamed, inserted, removed, inserting, removing}
+use Rattle.actors.specs.Actors.{lower, widen, narrow, renumbered, rowAt, rowsBy, renamed, inserted, removed, inserting, removing}
 use Rattle.actors.specs.ActorLaws.{renumbered-long, renumbered-other, renumbered-actor, rows-long, rows-in, Rooms, rooms}
 
 -- ---- a renumbering f, with what s makes of a clock, for a actors afterwards
@@ -170,59 +173,53 @@ module _ (f : ℕ → ℕ) (s : (ℕ → ℕ) → ℕ → ℕ) (a : ℕ) (t : Ta
 
 -- ---- one more, at place p
 
--- numbers that move up
-raise-low : (p x : ℕ) → x < p → raise p x ≡ x
-raise-low p x l = rw (lt-ltb x p l)
-
-raise-high : (p x : ℕ) → p ≤ x → raise p x ≡ suc x
-raise-high p x l = rw (le-ltb x p l)
-
-raise-apart : (p x y : ℕ) → raise p x ≡ raise p y → x ≡ y
-raise-apart p x y e =
+-- numbers that move up stay apart, and none is p
+raised-apart : (p x y : ℕ) → raised p x ≡ raised p y → x ≡ y
+raised-apart p x y e =
     ⊎-elim
-    (λ l. let a = raise-low p x l in ⊎-elim (λ h. let b = raise-low p y h in omega arith) (λ h. let b = raise-high p y h in absurd (omega arith)) (below-or-not y p))
-    (λ l. let a = raise-high p x l in ⊎-elim (λ h. let b = raise-low p y h in absurd (omega arith)) (λ h. let b = raise-high p y h in omega arith) (below-or-not y p))
+    (λ l. let a = raised-low p x l in ⊎-elim (λ h. let b = raised-low p y h in omega arith) (λ h. let b = raised-high p y h in absurd (omega arith)) (below-or-not y p))
+    (λ l. let a = raised-high p x l in ⊎-elim (λ h. let b = raised-low p y h in absurd (omega arith)) (λ h. let b = raised-high p y h in omega arith) (below-or-not y p))
     (below-or-not x p)
 
-raise-new : (p x : ℕ) → raise p x ≡ p → ⊥
-raise-new p x e = ⊎-elim (λ l. let a = raise-low p x l in omega arith) (λ l. let a = raise-high p x l in omega arith) (below-or-not x p)
+raised-new : (p x : ℕ) → raised p x ≡ p → ⊥
+raised-new p x e = ⊎-elim (λ l. let a = raised-low p x l in omega arith) (λ l. let a = raised-high p x l in omega arith) (below-or-not x p)
 
 module _ (t : Tables) (p : ℕ) (v : Valid t) (within : p ≤ actors t) (room : actors t < actorRoom t) where
   -- the graph has its actors' numbers moved up from p on, and nothing else
-  pub inserted-relabels : Relabels (raise p) (graph t) (graph (inserted t p))
-  inserted-relabels = relabels (raise p) (widen p) (actors t + 1) t v (λ j k lj lk e. raise-apart p (actorAt (t .nodes) j) (actorAt (t .nodes) k) e)
+  pub inserted-relabels : Relabels (raised p) (graph t) (graph (inserted t p))
+  inserted-relabels = relabels (raised p) (widen p) (actors t + 1) t v (λ j k lj lk e. raised-apart p (actorAt (t .nodes) j) (actorAt (t .nodes) k) e)
 
-  moved : (l : List ℕ) (x : ℕ) → clock (graph (inserted t p)) l (raise p x) ≡ clock (graph t) l x
-  moved l x = clock-relabel (raise p) (graph t) (graph (inserted t p)) (valid-graph t (v .sound)) inserted-relabels l x (λ k b e. raise-apart p (actorAt (t .nodes) k) x e)
+  moved : (l : List ℕ) (x : ℕ) → clock (graph (inserted t p)) l (raised p x) ≡ clock (graph t) l x
+  moved l x = clock-relabel (raised p) (graph t) (graph (inserted t p)) (valid-graph t (v .sound)) inserted-relabels l x (λ k b e. raised-apart p (actorAt (t .nodes) k) x e)
 
   -- every clock goes with its actors, and the new one has nothing
   pub inserted-clock : (l : List ℕ) (i : ℕ) → clock (graph (inserted t p)) l i ≡ widen p (clock (graph t) l) i
   inserted-clock l i =
       ⊎-elim
-      (λ b. rw (lt-ltb i p b) (ap (clock (graph (inserted t p)) l) (sym (raise-low p i b)) ∙ moved l i))
+      (λ b. rw (lt-ltb i p b) (ap (clock (graph (inserted t p)) l) (sym (raised-low p i b)) ∙ moved l i))
       (λ b.
       by-bool (eqb i p)
       (λ y.
       rw (le-ltb i p b, y)
-      (clock-relabel-new (raise p) (graph t) (graph (inserted t p)) (valid-graph t (v .sound)) inserted-relabels l i (λ k h e. raise-new p (actorAt (t .nodes) k) (e ∙ eqb-true i p y))))
+      (clock-relabel-new (raised p) (graph t) (graph (inserted t p)) (valid-graph t (v .sound)) inserted-relabels l i (λ k h e. raised-new p (actorAt (t .nodes) k) (e ∙ eqb-true i p y))))
       (λ n.
       let m = eqb-false i p n in
-      let q : raise p (i - 1) ≡ i = past i b m in
+      let q : raised p (i - 1) ≡ i = past i b m in
       rw (le-ltb i p b, n) (ap (clock (graph (inserted t p)) l) (sym q) ∙ moved l (i - 1))))
       (below-or-not i p)
     where
-      past : (i : ℕ) → p ≤ i → (i ≡ p → ⊥) → raise p (i - 1) ≡ i
-      past i b m = ⊎-elim (λ l. raise-high p (i - 1) (omega arith) ∙ omega arith) (λ l. absurd (m (omega arith))) (below-or-not p i)
+      past : (i : ℕ) → p ≤ i → (i ≡ p → ⊥) → raised p (i - 1) ≡ i
+      past i b m = ⊎-elim (λ l. raised-high p (i - 1) (omega arith) ∙ omega arith) (λ l. absurd (m (omega arith))) (below-or-not p i)
 
   pub inserted-valid : Valid (inserted t p)
   unfolding Numbers
   inserted-valid =
-      stays-valid (raise p) (widen p) (actors t + 1) t v (λ j k lj lk e. raise-apart p (actorAt (t .nodes) j) (actorAt (t .nodes) k) e) below (omega arith) none inserted-clock
+      stays-valid (raised p) (widen p) (actors t + 1) t v (λ j k lj lk e. raised-apart p (actorAt (t .nodes) j) (actorAt (t .nodes) k) e) below (omega arith) none inserted-clock
     where
-      below : (k : ℕ) → k < changes t → raise p (actorAt (t .nodes) k) < actors t + 1
+      below : (k : ℕ) → k < changes t → raised p (actorAt (t .nodes) k) < actors t + 1
       below k l =
           let b = v .sound .numbers k l .actor-low in
-          ⊎-elim (λ h. let e = raise-low p (actorAt (t .nodes) k) h in omega arith) (λ h. let e = raise-high p (actorAt (t .nodes) k) h in omega arith) (below-or-not (actorAt (t .nodes) k) p)
+          ⊎-elim (λ h. let e = raised-low p (actorAt (t .nodes) k) h in omega arith) (λ h. let e = raised-high p (actorAt (t .nodes) k) h in omega arith) (below-or-not (actorAt (t .nodes) k) p)
 
       none : (i : ℕ) → widen p (λ j. 0) i ≡ 0
       none i = by-bool (ltb i p) (λ y. rw y) (λ n. rw n (by-bool (eqb i p) (λ y. rw y) (λ m. rw m)))

@@ -2,9 +2,10 @@
 ghost use mathlib.Core.Path.{_≡_};
 ghost use Prim.Native.Nat.{ℕ, _+_, _*_, _≤_, _<_};
 ghost use lib.ListN.{length};
+ghost use Rattle.clock.specs.Clock.{raised};
 ghost use Rattle.tables.specs.Tables.{tables, actorAt};
 ghost use Rattle.tables.specs.Valid.{Lengths, Valid};
-ghost use Rattle.actors.specs.Actors.{numberOf, opening, inserting, removing, raise, lower, widen, narrow, renumbered, filled, rowAt, rowsBy, inserted, removed, opened, ifDone};
+ghost use Rattle.actors.specs.Actors.{numberOf, opening, inserting, removing, lower, widen, narrow, renumbered, filled, rowAt, rowsBy, inserted, removed, opened, ifDone};
 
 // What opening, putting in or taking away comes to.
 pub enum Numbered {
@@ -53,7 +54,7 @@ pub fn open_empty(
 // An actor's number after one came in at place p.
 fn raised(a: u32, p: usize) -> u32
     requires { ⌜ a < 64 ⌝ }
-    ensures { λ r. ⌜ r ≡ raise p a ⌝ }
+    ensures { λ r. ⌜ r ≡ raised p a ⌝ }
 {
     if (a as usize) < p { a } else { a + 1 }
 }
@@ -69,7 +70,7 @@ fn lowered(a: u32, p: usize) -> u32
 fn renumber_up(nodes: &mut [u32], n: usize, p: usize)
     requires { ⌜ 6 * n ≤ length (now nodes) ⌝ }
     requires { ⌜ ((k : ℕ) → k < n → actorAt (now nodes) k < 64) ⌝ }
-    ensures { λ _. ⌜ now (nodes .exit) ≡ renumbered (raise p) n (now (nodes .entry)) ⌝ }
+    ensures { λ _. ⌜ now (nodes .exit) ≡ renumbered (raised p) n (now (nodes .entry)) ⌝ }
 {
     let mut k = 0;
     while k < n {
@@ -92,17 +93,10 @@ fn renumber_down(nodes: &mut [u32], n: usize, p: usize)
 
 // Opens place p in the row of w entries from b on.
 fn widen_row(clocks: &mut [u32], b: usize, w: usize, p: usize)
-    requires { ⌜ (b + w ≤ length (now clocks)) × (p ≤ w) ⌝ }
+    requires { ⌜ (b + w ≤ length (now clocks)) × (p < w) ⌝ }
     ensures { λ _. ⌜ now (clocks .exit) ≡ filled b (widen p (rowAt (now (clocks .entry)) b w)) w (now (clocks .entry)) ⌝ }
 {
-    let mut carry: u32 = 0;
-    let mut i = p;
-    while i < w {
-        let old = clocks[b + i];
-        clocks[b + i] = carry;
-        carry = old;
-        i += 1;
-    }
+    clock::rewrite_with_new_actor(&mut clocks[b..b + w], w - 1, p);
 }
 
 // Closes place p in the row of w entries from b on.
@@ -110,17 +104,12 @@ fn narrow_row(clocks: &mut [u32], b: usize, w: usize, p: usize)
     requires { ⌜ (b + w ≤ length (now clocks)) × (p < w) ⌝ }
     ensures { λ _. ⌜ now (clocks .exit) ≡ filled b (narrow p (rowAt (now (clocks .entry)) b w)) w (now (clocks .entry)) ⌝ }
 {
-    let mut i = p;
-    while i + 1 < w {
-        clocks[b + i] = clocks[b + i + 1];
-        i += 1;
-    }
-    clocks[b + i] = 0;
+    clock::remove_actor(&mut clocks[b..b + w], w, p);
 }
 
 // Opens place p in the first n rows of w entries.
 fn widen_rows(clocks: &mut [u32], n: usize, w: usize, p: usize)
-    requires { ⌜ (n * w ≤ length (now clocks)) × (p ≤ w) ⌝ }
+    requires { ⌜ (n * w ≤ length (now clocks)) × (p < w) ⌝ }
     ensures { λ _. ⌜ now (clocks .exit) ≡ rowsBy (widen p) w n (now (clocks .entry)) ⌝ }
 {
     let mut k = 0;

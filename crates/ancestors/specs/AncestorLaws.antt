@@ -1,19 +1,17 @@
 -- The marks of a history keep what the paper keeps, and each answer from its condition.
 -- Assumes nothing.
-use mathlib.Core.Path.{_≡_, refl, sym, ap, ap₂, _∙_, subst}
-use mathlib.Core.Bool.{Bool, true, false, not, cond, _&&_, _||_}
-use mathlib.Core.List.{List, [], _∷_, map}
+use mathlib.Core.Path.{_≡_, refl, sym, ap, _∙_, subst}
+use mathlib.Core.Bool.{Bool, true, false, not, cond, _&&_}
+use mathlib.Core.List.{List}
 use Prim.Native.Nat.{ℕ, zero, suc, _*_, _-_, _/_, _%_, _≤_, _<_}
 use native.Mathlib.Omega.{arith}
 use lib.Dec.{eqb, ltb}
 use lib.ListN.{length, getD, take, replicate, length-replicate}
-use borrow.Author.Tests.{eqb-true, eq-eqb, ne-eqb, lt-ltb}
-use Rattle.paper.specs.Lists.{mem, pick, tally, sameList, names, hashAt, hashes-from, hashes-of, ascending}
+use borrow.Author.Tests.{eq-eqb, ne-eqb, lt-ltb}
+use Rattle.paper.specs.Lists.{pick, tally, names, hashAt, hashes-from, hashes-of, ascending}
 use Rattle.paper.specs.Text.{flat}
 use Rattle.paper.specs.Graph.{Graph, node, nodes, known, hist, remove-ancestors}
-use Rattle.paper.proofs.Bools.{to-false, same-bool, pick-ext, mem-nil, mem-cons}
-use Rattle.paper.proofs.First.{first-is, first-says}
-use Rattle.paper.proofs.Hashes.{same-refl, same→eq, eq→same}
+use Rattle.paper.proofs.Bools.{to-false}
 use Rattle.paper.proofs.History.{hist-known}
 use Rattle.paper.proofs.Each.{getD-each, each-ext}
 use Rattle.hash.specs.Hash.{findHash}
@@ -21,58 +19,27 @@ use Rattle.hash.specs.HashLaws.{FoundIs, find-is}
 use Rattle.hash.specs.declared.Found.{Found}
 use Rattle.hash.specs.declared.Found.the-variants.{At, Unknown}
 use Rattle.tables.specs.Tables.{Tables, changes, graph}
-use Rattle.tables.specs.Valid.{Valid, Distinct}
+use Rattle.tables.specs.Valid.{Valid}
 use Rattle.tables.specs.NodeLaws.{node-at, node-low, node-none}
 use Rattle.tables.specs.DepsLaws.{valid-graph}
 use Rattle.walk.specs.Marks.{marked, marks-of}
-use Rattle.answers.specs.Answers.{listed, filled}
-use Rattle.answers.specs.AnswerLaws.{Holds}
-use Rattle.answers.specs.Entering.{Entering}
-use Rattle.answers.specs.declared.Listed.the-variants.{Done, Malformed}
-use Rattle.current.specs.CurrentLaws.{found, find-names}
-use Rattle.questions.specs.KnownLaws.{hist-knowns, starts-are}
-use Rattle.ancestors.specs.Ancestors.{removed, removed-told, removed-filled, named-at, unmarked, kept, first-kept, kept-bytes}
+use Rattle.answer_buffer.specs.Answers.{listed, filled}
+use Rattle.answer_buffer.specs.AnswerLaws.{Holds}
+use Rattle.answer_buffer.specs.Entering.{Entering}
+use Rattle.answer_buffer.specs.declared.Listed.the-variants.{Done, Malformed}
+use Rattle.current_heads.specs.CurrentLaws.{found, find-names}
+use Rattle.list_clock.specs.KnownLaws.{hist-knowns, starts-are}
+use Rattle.ancestors.specs.Ancestors.{removed, removed-told, removed-filled, unmarked, kept, first-kept, kept-bytes}
 use Rattle.ancestors.specs.KeptLaws.{keep-ext, kept-to, kept-told, kept-whole, bytes-long}
 
--- ---- distinct hashes: a node is a listed one's exactly if its hash is listed
-
 module _ (t : Tables) (v : Valid t) where
-  -- the node of node k's hash is k
-  own-node : (k : ℕ) → k < changes t → node (graph t) (hashAt (t .hashes) k) ≡ k
-  unfolding node Distinct
-  own-node k l =
-      first-is (λ j. sameList (hashAt (t .hashes) j) (hashAt (t .hashes) k)) (changes t) k l (same-refl (hashAt (t .hashes) k))
-      (λ j b. to-false (sameList (hashAt (t .hashes) j) (hashAt (t .hashes) k)) (λ s. v .sound .distinct k l j b (same→eq (hashAt (t .hashes) j) (hashAt (t .hashes) k) s)))
+  -- ---- the marks of a walk from the known ones of a list are those of the list's history
 
-  -- the node of a hash is k exactly if the hash is node k's
-  node-named : (k : ℕ) → k < changes t → (h : List ℕ) → eqb k (node (graph t) h) ≡ sameList h (hashAt (t .hashes) k)
-  unfolding node
-  node-named k l h =
-      same-bool (eqb k (node (graph t) h)) (sameList h (hashAt (t .hashes) k))
-      (λ e.
-      let q = eqb-true k (node (graph t) h) e in
-      let p = first-says (λ j. sameList (hashAt (t .hashes) j) h) (changes t) .passes (omega arith) in
-      eq→same h (hashAt (t .hashes) k) (sym (same→eq (hashAt (t .hashes) (node (graph t) h)) h p) ∙ ap (hashAt (t .hashes)) (sym q)))
-      (λ s. eq-eqb k (node (graph t) h) (sym (own-node k l) ∙ ap (node (graph t)) (sym (same→eq h (hashAt (t .hashes) k) s))))
-
-  nodes-named : (k : ℕ) → k < changes t → (l : List (List ℕ)) → mem k (map (node (graph t)) l) ≡ names (hashAt (t .hashes) k) l
-  unfolding names
-  nodes-named k b [] = mem-nil k
-  nodes-named k b (h ∷ l) = mem-cons k (node (graph t) h) (map (node (graph t)) l) ∙ ap₂ (λ (x y : Bool). x || y) (node-named k b h) (nodes-named k b l)
-
-  -- the nodes whose hashes are listed are the known ones of the list
-  pub listed-known : (list : List ℕ) → pick (named-at (t .hashes) list) (changes t) ≡ pick (known (graph t) (nodes (graph t) (hashes-of list))) (changes t)
-  unfolding known nodes
-  listed-known list =
-      pick-ext (named-at (t .hashes) list) (known (graph t) (nodes (graph t) (hashes-of list))) (changes t)
-      (λ k l. sym (ap (λ (b : Bool). b && mem k (map (node (graph t)) (hashes-of list))) (lt-ltb k (changes t) l) ∙ nodes-named k l (hashes-of list)))
-
-  -- the marks of their history are those of the list's
-  pub listed-marks : (list : List ℕ) {out₀ out : List ℕ} {c : ℕ} → Holds (pick (named-at (t .hashes) list) (changes t)) out₀ out c
+  pub known-marks : (list : List ℕ) {out₀ out : List ℕ} {c : ℕ} → Holds (pick (known (graph t) (nodes (graph t) (hashes-of list))) (changes t)) out₀ out c
       → (r : ℕ) → marks-of (hist (graph t) (take (c - 0) out)) r ≡ marks-of (hist (graph t) (nodes (graph t) (hashes-of list))) r
   unfolding marks-of
-  listed-marks list h r =
-      ap (λ (s : List ℕ). marks-of (hist (graph t) s) r) (starts-are h ∙ listed-known list)
+  known-marks list h r =
+      ap (λ (s : List ℕ). marks-of (hist (graph t) s) r) (starts-are h)
       ∙ each-ext (λ j. cond (hist (graph t) (pick (known (graph t) (nodes (graph t) (hashes-of list))) (changes t)) j) 1 0) (λ j. cond (hist (graph t) (nodes (graph t) (hashes-of list)) j) 1 0) r
       (λ j l. ap (λ (b : Bool). cond b 1 0) (hist-knowns (graph t) (valid-graph t (v .sound)) (nodes (graph t) (hashes-of list)) j))
 

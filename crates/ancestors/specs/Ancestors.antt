@@ -10,9 +10,9 @@ use Rattle.hash.specs.Hash.{findHash}
 use Rattle.hash.specs.declared.Found.{Found}
 use Rattle.hash.specs.declared.Found.the-variants.{At, Unknown}
 use Rattle.walk.specs.Marks.{marked}
-use Rattle.answers.specs.Answers.{whole-list, listed, filled}
-use Rattle.answers.specs.declared.Listed.{Listed}
-use Rattle.answers.specs.declared.Listed.the-variants.{Malformed}
+use Rattle.answer_buffer.specs.Answers.{whole-list, listed, filled}
+use Rattle.answer_buffer.specs.declared.Listed.{Listed}
+use Rattle.answer_buffer.specs.declared.Listed.the-variants.{Malformed}
 
 -- the bytes of the paper's list: the hashes of `list` outside the history of those of `of`, ascending, each once
 unfoldable pub removed : Graph → List ℕ → List ℕ → List ℕ
@@ -25,10 +25,6 @@ unfoldable pub removed-filled : Graph → List ℕ → List ℕ → List ℕ →
 removed-filled g list of out = cond (whole-list list && whole-list of) (filled (removed g list of) out) out
 
 -- ---- by marks
-
--- node k's hash is listed
-abbrev pub named-at : List ℕ → List ℕ → ℕ → Bool
-named-at hs list k = names (hashAt hs k) (hashes-of list)
 
 -- what a search found is not marked
 abbrev pub unmarked : List ℕ → Found → Bool

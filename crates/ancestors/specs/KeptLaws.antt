@@ -14,11 +14,11 @@ use Rattle.paper.proofs.Hashes.{same→eq}
 use Rattle.paper.proofs.Ascending.{ascending-long}
 use Rattle.paper.proofs.Count.{tally-wider}
 use Rattle.hash.specs.HashLaws.{hash-length}
-use Rattle.answers.specs.Answers.{listed, filled}
-use Rattle.answers.specs.SlotLaws.{hashes-split}
-use Rattle.answers.specs.Entering.{Wide, wide-cons, wide-ascending, flat-long, Entering, entering-start, entering-room, entering-next, entering-told, entering-whole}
-use Rattle.answers.specs.declared.Listed.the-variants.{Done}
-use Rattle.current.specs.Ascents.{NamesSame, ascending-same}
+use Rattle.answer_buffer.specs.Answers.{listed, filled}
+use Rattle.answer_buffer.specs.SlotLaws.{hashes-split}
+use Rattle.answer_buffer.specs.Entering.{Wide, wide-cons, wide-ascending, flat-long, Entering, entering-start, entering-room, entering-next, entering-told, entering-whole}
+use Rattle.answer_buffer.specs.declared.Listed.the-variants.{Done}
+use Rattle.current_heads.specs.Ascents.{NamesSame, ascending-same}
 
 -- ---- keeping
 

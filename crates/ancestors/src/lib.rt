@@ -2,34 +2,15 @@
 ghost use mathlib.Core.Path.{_≡_};
 ghost use Prim.Native.Nat.{_+_, _*_, _/_, _≤_, _<_};
 ghost use lib.ListN.{length};
-ghost use Rattle.paper.specs.Lists.{pick, tally, hashAt, hashes-of};
+ghost use Rattle.paper.specs.Lists.{tally, hashAt, hashes-of};
 ghost use Rattle.paper.specs.Graph.{hist, nodes as nodes-of};
 ghost use Rattle.tables.specs.Tables.{tables, graph, changes};
 ghost use Rattle.tables.specs.Valid.{Valid};
 ghost use Rattle.walk.specs.Marks.{marks-of};
-ghost use Rattle.answers.specs.Answers.{listed, filled};
-ghost use Rattle.answers.specs.AnswerLaws.{Holds};
-ghost use Rattle.ancestors.specs.Ancestors.{named-at, kept, first-kept, kept-bytes, removed-told, removed-filled};
-use answers::Listed;
+ghost use Rattle.answer_buffer.specs.Answers.{listed, filled};
+ghost use Rattle.ancestors.specs.Ancestors.{kept, first-kept, kept-bytes, removed-told, removed-filled};
+use answer_buffer::Listed;
 use hash::Found;
-
-// Lists those of the first n nodes whose hashes are listed. Answers how many they are.
-fn listed_nodes(hashes: &[u8], n: usize, list: &[u8], out: &mut [u32]) -> usize
-    requires { ⌜ (32 * n ≤ length (now hashes)) × (n ≤ length (now out)) × (n ≤ 4096) ⌝ }
-    ensures { λ r. ⌜ Holds (pick (named-at (now (hashes .entry)) (now (list .entry))) n) (now (out .entry)) (now (out .exit)) r ⌝ }
-{
-    let mut c: usize = 0;
-    let mut k = 0;
-    while k < n {
-        let p = 32 * k;
-        if current::is_listed(list, &hashes[p..p + 32]) {
-            out[c] = k as u32;
-            c += 1;
-        }
-        k += 1;
-    }
-    c
-}
 
 // Marks the history of the listed hashes, a 1 for each node in it, and no other.
 fn history_of(
@@ -46,9 +27,17 @@ fn history_of(
     requires { ⌜ changes (tables (now hashes) (now nodes) (now targets) (now nexts) (now clocks) (now counts)) ≤ length (now marks) ⌝ }
     ensures { λ _. ⌜ now (marks .exit) ≡ marks-of (hist (graph (tables (now (hashes .entry)) (now (nodes .entry)) (now (targets .entry)) (now (nexts .entry)) (now (clocks .entry)) (now (counts .entry)))) (nodes-of (graph (tables (now (hashes .entry)) (now (nodes .entry)) (now (targets .entry)) (now (nexts .entry)) (now (clocks .entry)) (now (counts .entry)))) (hashes-of (now (list .entry))))) (length (now (marks .entry))) ⌝ }
 {
-    let n = counts[0] as usize;
     let mut starts = [0u32; 4096];
-    let c = listed_nodes(hashes, n, list, &mut starts);
+    let c = list_clock::starts_of(
+        hashes,
+        nodes,
+        targets,
+        nexts,
+        clocks,
+        counts,
+        list,
+        &mut starts,
+    );
     walk::mark_history(
         hashes,
         nodes,
@@ -117,7 +106,7 @@ fn kept_into(hashes: &[u8], n: usize, marks: &[u8], list: &[u8], out: &mut [u8])
     let mut i = 0;
     while i < m {
         if is_kept(hashes, n, marks, list, i) {
-            c = answers::enter_hash(out, c, list, i);
+            c = answer_buffer::enter_hash(out, c, list, i);
         }
         i += 1;
     }

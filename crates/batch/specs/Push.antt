@@ -5,7 +5,7 @@ use mathlib.Core.List.{List, [], _∷_}
 use mathlib.Core.Bool.{Bool, not, cond, _||_}
 use lib.Dec.{eqb, ltb, leb}
 use lib.ListN.{length, set}
-use Rattle.laws.specs.Over.{over}
+use Rattle.list_laws.specs.Over.{over}
 use Rattle.paper.specs.Numbers.{number, done, not-valid, malformed, already-known, already-waiting, many-dependencies, no-queue-room}
 use Rattle.ready.specs.Tables.{knownIn}
 use Rattle.records.specs.Records.{Rooms}

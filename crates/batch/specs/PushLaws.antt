@@ -8,7 +8,7 @@ use lib.Dec.{eqb, ltb, leb}
 use lib.ListN.{length}
 use lib.Seq.{take-length}
 use borrow.Author.Tests.{eqb-true, ltb-false, leb-false}
-use Rattle.laws.specs.Over.{over, part}
+use Rattle.list_laws.specs.Over.{over, part}
 use Rattle.paper.proofs.Bools.{by-bool, not-both}
 use Rattle.ready.specs.Tables.{knownIn}
 use Rattle.records.specs.Records.{Rooms}

@@ -8,7 +8,8 @@ use Prim.Native.Nat.{ℕ, zero, suc, _+_, _*_, _/_, _%_, _≤_, _<_, max}
 use lib.Dec.{eqb, ltb}
 use lib.ListN.{length, getD, drop, replicate}
 use Rattle.paper.specs.Lists.{pick, each-below}
-use Rattle.paper.specs.Graph.{clock, front}
+use Rattle.paper.specs.Graph.{clock}
+use Rattle.paper.specs.ProofWords.{front}
 use Rattle.paper.specs.Caching.{left-over, in-turn, cached-to, cached-after}
 use Rattle.tables.specs.Tables.{Tables, changes, actorRoom, entryAt, graph}
 use Rattle.tables.specs.Valid.{Sound}

@@ -11,9 +11,10 @@ use lib.Dec.{eqb, ltb}
 use lib.ListN.{length, getD, set, drop, length-set, replicate}
 use lib.Seq.{getD-set-same, getD-set-other, ext-getD, getD-drop, drop-paste, paste}
 use borrow.Author.Tests.{eqb-true, eqb-false, eq-eqb, ne-eqb, ltb-true, ltb-false, lt-ltb, le-ltb}
-use Rattle.laws.specs.Paste.{paste-long, paste-low, paste-in}
+use Rattle.list_laws.specs.Paste.{paste-long, paste-low, paste-in}
 use Rattle.paper.specs.Lists.{mem, pick}
-use Rattle.paper.specs.Graph.{Graph, clock, front, Valid as ValidGraph}
+use Rattle.paper.specs.Graph.{Graph, clock, Valid as ValidGraph}
+use Rattle.paper.specs.ProofWords.{front}
 use Rattle.paper.specs.Caching.{left-over, in-turn, cached-to, cached-after}
 use Rattle.paper.proofs.Bools.{by-bool, not-both, to-false, below-or-not, mem-nil, mem-single, mem-here, mem-pick, pick-mem}
 use Rattle.paper.proofs.Walk.{front-ext, front-skip, front-cached, front-mark, clock-nil}

@@ -11,9 +11,10 @@ use lib.Dec.{eqb, ltb}
 use lib.ListN.{length, getD, set, drop, take, length-set, length-append, length-drop, replicate, length-replicate, List·getD-append}
 use lib.Seq.{ext-getD, length-take-le}
 use borrow.Author.Tests.{lt-ltb, le-ltb, ltb-false}
-use Rattle.laws.specs.Iff.{same-answer, Below}
+use Rattle.list_laws.specs.Iff.{same-answer, Below}
 use Rattle.paper.specs.Lists.{mem, each-below}
-use Rattle.paper.specs.Graph.{Graph, own, clock, front, Valid as ValidGraph}
+use Rattle.paper.specs.Graph.{Graph, own, clock, Valid as ValidGraph}
+use Rattle.paper.specs.ProofWords.{front}
 use Rattle.paper.proofs.Bools.{by-bool, to-false, below-or-not}
 use Rattle.paper.proofs.Clock.{clock-node}
 use Rattle.paper.proofs.Walk.{front-ext, front-mark}

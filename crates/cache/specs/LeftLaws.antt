@@ -12,7 +12,8 @@ use lib.ListN.{length, getD, set, length-set}
 use lib.Seq.{getD-set-same, getD-set-other}
 use borrow.Author.Tests.{eqb-true, eqb-false, eq-eqb, ne-eqb, ltb-true, ltb-false, lt-ltb, le-ltb}
 use Rattle.paper.specs.Lists.{mem, pick}
-use Rattle.paper.specs.Graph.{Graph, clock, front, Valid as ValidGraph}
+use Rattle.paper.specs.Graph.{Graph, clock, Valid as ValidGraph}
+use Rattle.paper.specs.ProofWords.{front}
 use Rattle.paper.specs.Caching.{in-turn, cached-to, cached-after}
 use Rattle.paper.proofs.Bools.{by-bool, to-false, below-or-not, mem-single, mem-here}
 use Rattle.paper.proofs.Walk.{front-ext, front-mark}

@@ -13,8 +13,8 @@ use lib.Seq.{drop-cons, ext-getD, getD-set-same, getD-set-other}
 use lib.Dec.{eqb, ltb, leb}
 use borrow.Author.Tests.{le-leb, lt-leb, leb-true, eqb-true, ltb-true, ltb-false}
 use Rattle.paper.specs.Graph.{Covers}
-use Rattle.laws.specs.Cases.{below-or-not, three-ways}
-use Rattle.laws.specs.Blend.{blend, blend-read, blend-set, blend-skip, blend-tail, blend-end}
+use Rattle.list_laws.specs.Cases.{below-or-not, three-ways}
+use Rattle.list_laws.specs.Blend.{blend, blend-read, blend-set, blend-skip, blend-tail, blend-end}
 use Rattle.clock.specs.Clock.{entryOf, included, joined, coversAll, isolated, opCovers}
 use Rattle.clock.specs.declared.Entry.{Entry}
 use Rattle.clock.specs.declared.Entry.the-variants.{Sequence, Nothing}

@@ -12,7 +12,7 @@ use lib.ListN.{length, take, drop, getD, set, length-append, length-take, length
 use lib.Seq.{getD-take, getD-drop, getD-at, length-take-le, take-at, take-take, drop-at, ext-getD, set-split, set-getD}
 use lib.Dec.{ltb}
 use borrow.Author.Tests.{lt-ltb, le-ltb}
-use Rattle.laws.specs.Cases.{below-or-not, three-ways}
+use Rattle.list_laws.specs.Cases.{below-or-not, three-ways}
 use Rattle.clock.specs.Clock.{insertAt, removeAt, inserted, removed, raised}
 
 -- ---- the new place of an entry

@@ -6,7 +6,7 @@ use native.Mathlib.Numerals.{add-one}
 use native.Mathlib.Omega.{arith}
 use mathlib.Core.List.{List}
 use lib.ListN.{length, getD, set, length-set}
-use Rattle.laws.specs.Blend.{blend, blend-read, blend-later, blend-set, blend-head, blend-tail}
+use Rattle.list_laws.specs.Blend.{blend, blend-read, blend-later, blend-set, blend-head, blend-tail}
 use Rattle.clock.specs.Clock.{inserted, removed}
 use Rattle.clock.specs.Places.{length-inserted, inserted-low, inserted-here, inserted-high, inserted-head, inserted-rest, length-removed, removed-high, removed-free, removed-head, removed-rest}
 

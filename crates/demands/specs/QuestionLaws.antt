@@ -12,17 +12,17 @@ use Rattle.paper.proofs.Bools.{by-bool}
 use Rattle.paper.specs.Graph.{Graph, change-at, owner}
 use Rattle.tables.specs.Tables.{Tables, graph}
 use Rattle.tables.specs.Valid.{Lengths, Valid}
-use Rattle.answers.specs.Answers.{listed, filled, whole-list, one-hash, node-hash, node-hash-filled}
-use Rattle.answers.specs.declared.Listed.{Listed}
-use Rattle.answers.specs.declared.Listed.the-variants.{Done, Malformed, NotFound, NoOwner, Short}
+use Rattle.answer_buffer.specs.Answers.{listed, filled, whole-list, one-hash, node-hash, node-hash-filled}
+use Rattle.answer_buffer.specs.declared.Listed.{Listed}
+use Rattle.answer_buffer.specs.declared.Listed.the-variants.{Done, Malformed, NotFound, NoOwner, Short}
 use Rattle.lookups.specs.Lookups.{actor-list}
 use Rattle.heads.specs.Heads.{head-hashes, head-places}
-use Rattle.questions.specs.Clocks.{whole-clock, clock-told, clock-filled}
+use Rattle.list_clock.specs.Clocks.{whole-clock, clock-told, clock-filled}
 use Rattle.op_clock.specs.OpClocks.{whole-op-clock, op-clock-told, op-clock-filled}
 use Rattle.missing.specs.Missing.{missing-hashes, missing-told, missing-filled}
 use Rattle.deps.specs.Deps.{hash-deps, deps-told, deps-filled}
 use Rattle.ancestors.specs.Ancestors.{removed, removed-told, removed-filled}
-use Rattle.hub_clock.specs.Operations.{ClockOf}
+use Rattle.hub_list_clock.specs.Operations.{ClockOf}
 use Rattle.hub_op_clock.specs.Operations.{ClockAt}
 use Rattle.hub_missing.specs.Operations.{MissingFrom}
 use Rattle.hub_owner.specs.Operations.{OwnerOf}
@@ -31,7 +31,7 @@ use Rattle.hub_hashes.specs.Operations.{IndexToHash, HashForActorSeq}
 use Rattle.hub_deps.specs.Operations.{DepsForHash}
 use Rattle.hub_ancestors.specs.Operations.{RemoveAncestors}
 use Rattle.hub_sizes.specs.Operations.{ActorIds, whichOf}
-use Rattle.asked.specs.Asks.{Reply, gives, refuses, numberOf, toldBy, ofListed, Asks, Tells}
+use Rattle.hub_answer.specs.Asks.{Reply, gives, refuses, numberOf, toldBy, ofListed, Asks, Tells}
 use Rattle.demands.specs.Operations.{Operation, open-for, Promised, Runs}
 use Rattle.demands.specs.Demands.{stable, demand-3}
 use Rattle.demands.specs.Questions.{Question, clock-of, clock-at, missing-from, owner-of, heads, head-indexes, index-to-hash, hash-for-actor-seq, deps-for-hash, actor-ids, remove-ancestors, answerOn, bufferOn, Answers}

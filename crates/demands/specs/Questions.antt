@@ -5,18 +5,18 @@ use Prim.Native.Nat.{ℕ}
 use lib.ListN.{length}
 use Rattle.paper.specs.Graph.{change-at, owner}
 use Rattle.tables.specs.Tables.{Tables, graph}
-use Rattle.answers.specs.Answers.{listed, filled, node-hash, node-hash-filled}
-use Rattle.answers.specs.declared.Listed.{Listed}
-use Rattle.answers.specs.declared.Listed.the-variants.{NotFound, NoOwner}
+use Rattle.answer_buffer.specs.Answers.{listed, filled, node-hash, node-hash-filled}
+use Rattle.answer_buffer.specs.declared.Listed.{Listed}
+use Rattle.answer_buffer.specs.declared.Listed.the-variants.{NotFound, NoOwner}
 use Rattle.lookups.specs.Lookups.{actor-list}
 use Rattle.lookups.specs.declared.Which.{Which}
 use Rattle.heads.specs.Heads.{head-hashes, head-places}
-use Rattle.questions.specs.Clocks.{clock-told, clock-filled}
+use Rattle.list_clock.specs.Clocks.{clock-told, clock-filled}
 use Rattle.op_clock.specs.OpClocks.{op-clock-told, op-clock-filled}
 use Rattle.missing.specs.Missing.{missing-told, missing-filled}
 use Rattle.deps.specs.Deps.{deps-told, deps-filled}
 use Rattle.ancestors.specs.Ancestors.{removed-told, removed-filled}
-use Rattle.asked.specs.Asks.{ofListed, Asks}
+use Rattle.hub_answer.specs.Asks.{ofListed, Asks}
 
 pub data Question : Type 0 where
   clock-of : List ℕ → Question

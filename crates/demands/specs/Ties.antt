@@ -5,7 +5,7 @@ use Prim.Native.Nat.{ℕ}
 use Rattle.paper.specs.Adding.{Change}
 use Rattle.paper.specs.Loading.{Columns}
 use Rattle.tables.specs.Tables.{Tables}
-use Rattle.hub_graph.specs.Operations.{Opened, counted}
+use Rattle.hub_open.specs.Operations.{Opened, counted}
 use Rattle.hub_add.specs.Operations.{Added}
 use Rattle.hub_actors.specs.Operations.{Inserted, Removed, renewed}
 use Rattle.hub_load.specs.Operations.{Loaded}

@@ -28,7 +28,7 @@ use Rattle.branch.specs.declared.Removed.the-variants as removed
 use Rattle.release.specs.Release.{Unchanged, ReleasedTo, numberOf as numberOfReleased}
 use Rattle.release.specs.declared.Released.{Released}
 use Rattle.release.specs.declared.Released.the-variants as released
-use Rattle.places.specs.Places.{Numbered}
+use Rattle.lent_place.specs.Places.{Numbered}
 use Rattle.hub_queue.specs.Told.{yesIn, countIn}
 use Rattle.hub_release.specs.Operations.{Stock, Left, Freed, FreedBy}
 use Rattle.demands.specs.Demands.{stable}

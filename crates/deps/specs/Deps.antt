@@ -6,9 +6,9 @@ use Prim.Native.Nat.{ℕ}
 use lib.Dec.{ltb}
 use Rattle.paper.specs.Text.{flat}
 use Rattle.paper.specs.Graph.{Graph, node}
-use Rattle.answers.specs.Answers.{one-hash, listed, filled}
-use Rattle.answers.specs.declared.Listed.{Listed}
-use Rattle.answers.specs.declared.Listed.the-variants.{Malformed}
+use Rattle.answer_buffer.specs.Answers.{one-hash, listed, filled}
+use Rattle.answer_buffer.specs.declared.Listed.{Listed}
+use Rattle.answer_buffer.specs.declared.Listed.the-variants.{Malformed}
 
 -- the hashes of node k's dependencies, in listed order with repeats
 unfoldable pub node-deps : Graph → ℕ → List ℕ

@@ -18,11 +18,11 @@ use Rattle.tables.specs.Valid.{Valid}
 use Rattle.tables.specs.DepsLaws.{links-end, deps-few, valid-graph}
 use Rattle.walk.specs.Marks.{Chain}
 use Rattle.walk.specs.MarkLaws.{chain-in, chain-target, chain-rest, chain-next, node-chain}
-use Rattle.laws.specs.Over.{over}
-use Rattle.answers.specs.Answers.{listed, filled}
-use Rattle.answers.specs.AnswerLaws.{Holds, holds-start, holds-next, holds-as, listed-done, filled-done}
-use Rattle.answers.specs.Room.{room}
-use Rattle.answers.specs.declared.Listed.the-variants.{Done, Malformed}
+use Rattle.list_laws.specs.Over.{over}
+use Rattle.answer_buffer.specs.Answers.{listed, filled}
+use Rattle.answer_buffer.specs.AnswerLaws.{Holds, holds-start, holds-next, holds-as, listed-done, filled-done}
+use Rattle.answer_buffer.specs.Room.{room}
+use Rattle.answer_buffer.specs.declared.Listed.the-variants.{Done, Malformed}
 use Rattle.deps.specs.Deps.{node-deps, hash-deps, deps-told, deps-filled}
 
 -- node k's edge list

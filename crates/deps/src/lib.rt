@@ -4,9 +4,9 @@ ghost use Prim.Native.Nat.{ℕ, _+_, _*_, _≤_, _<_};
 ghost use lib.ListN.{length};
 ghost use Rattle.tables.specs.Tables.{tables, graph, changes};
 ghost use Rattle.tables.specs.Valid.{Valid};
-ghost use Rattle.answers.specs.Answers.{listed, filled};
+ghost use Rattle.answer_buffer.specs.Answers.{listed, filled};
 ghost use Rattle.deps.specs.Deps.{node-deps, deps-told, deps-filled};
-use answers::Listed;
+use answer_buffer::Listed;
 use hash::Found;
 
 // How many dependencies node k has.
@@ -54,7 +54,7 @@ fn deps_into(
     let mut e = nodes[6 * k + 4] as usize;
     while e != 0 {
         let t = targets[e - 1] as usize;
-        answers::put_hash(out, c, hashes, t);
+        answer_buffer::put_hash(out, c, hashes, t);
         c += 32;
         e = nexts[e - 1] as usize;
     }

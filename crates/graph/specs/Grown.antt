@@ -14,7 +14,7 @@ use borrow.Author.Tests.{eq-eqb, ne-eqb, eqb-true, eqb-false}
 use Rattle.paper.specs.Lists.{mem}
 use Rattle.paper.proofs.Bools.{by-bool}
 use Rattle.paper.specs.Lists.{hashAt}
-use Rattle.laws.specs.Paste.{paste-long, paste-low, paste-in, paste-part, part-low, part-in}
+use Rattle.list_laws.specs.Paste.{paste-long, paste-low, paste-in, paste-part, part-low, part-in}
 use Rattle.tables.specs.Tables.{Tables, changes, edges, actors, changeRoom, edgeRoom, actorRoom, widthOf, actorAt, seqAt, maxOpAt, opsAt, firstAt, headAt, entryAt, along}
 use Rattle.tables.specs.Valid.{Valid, Lengths, Run, Laid}
 use Rattle.tables.specs.Valid.Run.{last, more}

@@ -9,7 +9,8 @@ use native.Mathlib.Omega.{arith}
 use lib.Dec.{eqb}
 use lib.ListN.{length, getD}
 use Rattle.paper.specs.Lists.{mem, tally}
-use Rattle.paper.specs.Graph.{Graph, clock, wanted, Extends, Valid as ValidGraph}
+use Rattle.paper.specs.Graph.{Graph, clock, wanted, Valid as ValidGraph}
+use Rattle.paper.specs.ProofWords.{Extends}
 use Rattle.paper.proofs.Bools.{by-bool, below-suc, mem-single, mem-place}
 use Rattle.paper.proofs.Extend.{valid-add, wanted-add, new-unwanted, clock-extend}
 use Rattle.paper.specs.Lists.{hashAt}

@@ -21,7 +21,7 @@ use Rattle.hash.specs.declared.Found.the-variants.{At, Unknown as Nowhere}
 use Rattle.hash.specs.declared.Missing.{Missing}
 use Rattle.hash.specs.declared.Missing.the-variants.{First, Nothing}
 use native.Mathlib.Nat.{mul-le-mul, mul-le-mul-right, suc-mul}
-use Rattle.laws.specs.Paste.{paste-long, paste-low, paste-in, paste-part}
+use Rattle.list_laws.specs.Paste.{paste-long, paste-low, paste-in, paste-part}
 use Rattle.tables.specs.Tables.{Tables, tables, changes, edges, actors, changeRoom, actorRoom, actorAt}
 use Rattle.tables.specs.Valid.{Valid}
 use Rattle.tables.specs.CheckLaws.{tally-bound}

@@ -24,14 +24,14 @@ use Rattle.hash.specs.declared.Found.the-variants.{At, Unknown}
 use Rattle.tables.specs.Tables.{Tables, tables, changes, headAt, graph}
 use Rattle.tables.specs.NodeLaws.{node-at, node-low, node-none}
 use Rattle.tables.specs.Valid.{Valid, Heads, Distinct}
-use Rattle.answers.specs.Room.{room}
-use Rattle.answers.specs.Picking.{rest-of, rest-all, rest-hit, rest-miss}
-use Rattle.answers.specs.Entering.{Wide, wide-cons, wide-ascending, flat-long, Entering, entering-start, entering-room, entering-next, entering-told, entering-whole, entered-list}
-use Rattle.answers.specs.SlotLaws.{hashes-split}
-use Rattle.answers.specs.AnswerLaws.{Holds, holds-next, holds-as, filled-done}
-use Rattle.laws.specs.Over.{over-one}
-use Rattle.answers.specs.Answers.{listed, filled}
-use Rattle.answers.specs.declared.Listed.the-variants.{Done}
+use Rattle.answer_buffer.specs.Room.{room}
+use Rattle.answer_buffer.specs.Picking.{rest-of, rest-all, rest-hit, rest-miss}
+use Rattle.answer_buffer.specs.Entering.{Wide, wide-cons, wide-ascending, flat-long, Entering, entering-start, entering-room, entering-next, entering-told, entering-whole, entered-list}
+use Rattle.answer_buffer.specs.SlotLaws.{hashes-split}
+use Rattle.answer_buffer.specs.AnswerLaws.{Holds, holds-next, holds-as, filled-done}
+use Rattle.list_laws.specs.Over.{over-one}
+use Rattle.answer_buffer.specs.Answers.{listed, filled}
+use Rattle.answer_buffer.specs.declared.Listed.the-variants.{Done}
 use Rattle.heads.specs.Heads.{head-hashes, head-places, node-in}
 
 abbrev pub is-head : Tables → ℕ → Bool

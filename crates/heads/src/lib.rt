@@ -9,10 +9,10 @@ ghost use Rattle.paper.specs.Lists.{tally, hashes-from};
 ghost use Rattle.paper.specs.Text.{flat};
 ghost use Rattle.tables.specs.Tables.{tables, graph, headAt};
 ghost use Rattle.tables.specs.Valid.{Valid};
-ghost use Rattle.answers.specs.Answers.{listed, filled};
-ghost use Rattle.answers.specs.AnswerLaws.{Holds};
+ghost use Rattle.answer_buffer.specs.Answers.{listed, filled};
+ghost use Rattle.answer_buffer.specs.AnswerLaws.{Holds};
 ghost use Rattle.heads.specs.Heads.{head-hashes, head-places, node-in, Askable};
-use answers::Listed;
+use answer_buffer::Listed;
 use hash::Found;
 
 // How many of the first n nodes are heads.
@@ -55,7 +55,7 @@ pub fn heads(
     while 0 < k {
         k -= 1;
         if nodes[6 * k + 5] == 1 {
-            c = answers::enter_hash(out, c, hashes, k);
+            c = answer_buffer::enter_hash(out, c, hashes, k);
         }
     }
     Listed::Done(32 * c)

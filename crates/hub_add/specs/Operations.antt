@@ -11,7 +11,7 @@ use Rattle.graph.specs.Place.{added}
 use Rattle.judge.specs.declared.Judged.{Judged}
 use Rattle.judge.specs.declared.Judged.the-variants.{Done, Malformed, Known, Unknown, NoActor, WrongSequence, BadOps, TooManyDeps, NoNodeRoom, NoEdgeRoom}
 use Rattle.edges.specs.Told.{Checked, Answered, valid-bounding, checked-refused, answered-refused}
-use Rattle.places.specs.Places.{toldIn}
+use Rattle.lent_place.specs.Places.{toldIn}
 
 -- the number that adding the change gives, and the tables afterwards
 abbrev pub addNumber : Change → Tables → ℕ

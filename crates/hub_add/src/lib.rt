@@ -18,7 +18,7 @@ fn tell_unknown(j: Judged, unknown: &mut [u64])
     ensures { λ r. ⌜ now (unknown .exit) ≡ unknownIn j (now (unknown .entry)) ⌝ }
 {
     match j {
-        Judged::Unknown(i) => places::tell(unknown, i as u64),
+        Judged::Unknown(i) => lent_place::tell(unknown, i as u64),
         Judged::Done => {}
         Judged::Malformed => {}
         Judged::Known => {}

@@ -5,7 +5,7 @@ use Prim.Native.Nat.{ℕ}
 use lib.ListN.{length}
 use Rattle.tables.specs.Tables.{Tables, graph}
 use Rattle.ancestors.specs.Ancestors.{removed-told, removed-filled}
-use Rattle.asked.specs.Asks.{ofListed, Asks}
+use Rattle.hub_answer.specs.Asks.{ofListed, Asks}
 
 -- asking the tables t for the hashes of the list outside the heads' history answers r and leaves out′ and told′
 abbrev pub RemoveAncestors : List ℕ → List ℕ → List ℕ → List ℕ → ℕ → List ℕ → List ℕ → Tables → Type 0

@@ -8,7 +8,7 @@ ghost use Rattle.tables.specs.Tables.{tables};
 ghost use Rattle.tables.specs.Valid.{Valid};
 ghost use Rattle.edges.specs.Edges.{lent};
 ghost use Rattle.edges.specs.Told.{Asked};
-ghost use Rattle.asked.specs.Asks.{Untouched};
+ghost use Rattle.hub_answer.specs.Asks.{Untouched};
 ghost use Rattle.hub_ancestors.specs.Operations.{RemoveAncestors};
 use edges::Edge;
 
@@ -41,7 +41,7 @@ fn remove_ancestors_checked(
         heads,
         out,
     );
-    asked::listed(bytes, told)
+    hub_answer::listed(bytes, told)
 }
 
 fn remove_ancestors_told(

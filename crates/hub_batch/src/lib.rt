@@ -4,7 +4,7 @@ ghost use Rattle.waiting.specs.Valid.{Laid, Valid, OpenedTo, numberOf as number
 ghost use Rattle.waiting.specs.declared.Opened.the-variants.{Done as OpenedDone, NotValid as OpenedNot};
 ghost use Rattle.batch.specs.Push.{judged, PushedTo, numberOf as numberOfPushed};
 ghost use Rattle.batch.specs.declared.Pushed.the-variants.{NotValid as PushedNot};
-ghost use Rattle.places.specs.Places.{Numbered};
+ghost use Rattle.lent_place.specs.Places.{Numbered};
 use batch::Pushed;
 use waiting::Opened;
 

@@ -9,7 +9,7 @@ ghost use Rattle.tables.specs.Tables.{tables};
 ghost use Rattle.tables.specs.Valid.{Valid};
 ghost use Rattle.edges.specs.Edges.{lent};
 ghost use Rattle.edges.specs.Told.{Asked};
-ghost use Rattle.asked.specs.Asks.{Untouched};
+ghost use Rattle.hub_answer.specs.Asks.{Untouched};
 ghost use Rattle.hub_chained.specs.Operations.{IsChained};
 use edges::Edge;
 
@@ -29,7 +29,7 @@ fn chained_checked(
         return 1;
     }
     let yes = chained::is_chained(hashes, nodes, targets, nexts, clocks, counts);
-    asked::yes(yes, told)
+    hub_answer::yes(yes, told)
 }
 
 fn chained_told(

@@ -6,7 +6,7 @@ use Rattle.paper.specs.Graph.{change-at, max-op-of}
 use Rattle.paper.specs.Adding.{seq-for-actor}
 use Rattle.tables.specs.Tables.{Tables, graph}
 use Rattle.lookups.specs.Lookups.{largest}
-use Rattle.asked.specs.Asks.{gives, Tells}
+use Rattle.hub_answer.specs.Asks.{gives, Tells}
 
 -- asking the tables t for the last sequence of the actor answers r and leaves told′
 abbrev pub SeqForActor : ℕ → List ℕ → ℕ → List ℕ → Tables → Type 0

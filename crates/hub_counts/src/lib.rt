@@ -9,7 +9,7 @@ ghost use Rattle.tables.specs.Tables.{tables};
 ghost use Rattle.tables.specs.Valid.{Valid};
 ghost use Rattle.edges.specs.Edges.{lent};
 ghost use Rattle.edges.specs.Told.{Asked};
-ghost use Rattle.asked.specs.Asks.{Untouched};
+ghost use Rattle.hub_answer.specs.Asks.{Untouched};
 ghost use Rattle.hub_counts.specs.Operations.{SeqForActor, MaxOpForActor, MaxOp};
 use edges::Edge;
 
@@ -30,7 +30,7 @@ fn seq_for_actor_checked(
         return 1;
     }
     let seq = lookups::seq_for_actor(hashes, nodes, targets, nexts, clocks, counts, actor);
-    asked::count(seq, told)
+    hub_answer::count(seq, told)
 }
 
 fn seq_for_actor_told(
@@ -111,7 +111,7 @@ fn max_op_for_actor_checked(
         return 1;
     }
     let last = lookups::max_op_for_actor(hashes, nodes, targets, nexts, clocks, counts, actor);
-    asked::count(last, told)
+    hub_answer::count(last, told)
 }
 
 fn max_op_for_actor_told(
@@ -191,7 +191,7 @@ fn max_op_checked(
         return 1;
     }
     let most = lookups::max_op(hashes, nodes, targets, nexts, clocks, counts);
-    asked::count(most, told)
+    hub_answer::count(most, told)
 }
 
 fn max_op_told(

@@ -5,7 +5,7 @@ use Prim.Native.Nat.{ℕ}
 use lib.ListN.{length}
 use Rattle.tables.specs.Tables.{Tables, graph}
 use Rattle.deps.specs.Deps.{deps-told, deps-filled}
-use Rattle.asked.specs.Asks.{ofListed, Asks}
+use Rattle.hub_answer.specs.Asks.{ofListed, Asks}
 
 -- asking the tables t for the dependencies of the hash answers r and leaves out′ and told′
 abbrev pub DepsForHash : List ℕ → List ℕ → List ℕ → ℕ → List ℕ → List ℕ → Tables → Type 0

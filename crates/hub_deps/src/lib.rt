@@ -8,7 +8,7 @@ ghost use Rattle.tables.specs.Tables.{tables};
 ghost use Rattle.tables.specs.Valid.{Valid};
 ghost use Rattle.edges.specs.Edges.{lent};
 ghost use Rattle.edges.specs.Told.{Asked};
-ghost use Rattle.asked.specs.Asks.{Untouched};
+ghost use Rattle.hub_answer.specs.Asks.{Untouched};
 ghost use Rattle.hub_deps.specs.Operations.{DepsForHash};
 use edges::Edge;
 
@@ -30,7 +30,7 @@ fn deps_for_hash_checked(
         return 1;
     }
     let bytes = deps::deps_for_hash(hashes, nodes, targets, nexts, clocks, counts, hash, out);
-    asked::listed(bytes, told)
+    hub_answer::listed(bytes, told)
 }
 
 fn deps_for_hash_told(

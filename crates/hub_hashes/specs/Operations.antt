@@ -5,9 +5,9 @@ use Prim.Native.Nat.{ℕ}
 use lib.ListN.{length}
 use Rattle.paper.specs.Graph.{change-at}
 use Rattle.tables.specs.Tables.{Tables, graph}
-use Rattle.answers.specs.Answers.{node-hash, node-hash-filled}
-use Rattle.answers.specs.declared.Listed.the-variants.{NotFound}
-use Rattle.asked.specs.Asks.{ofListed, Asks}
+use Rattle.answer_buffer.specs.Answers.{node-hash, node-hash-filled}
+use Rattle.answer_buffer.specs.declared.Listed.the-variants.{NotFound}
+use Rattle.hub_answer.specs.Asks.{ofListed, Asks}
 
 -- asking the tables t for the hash of the node answers r and leaves out′ and told′
 abbrev pub IndexToHash : ℕ → List ℕ → List ℕ → ℕ → List ℕ → List ℕ → Tables → Type 0

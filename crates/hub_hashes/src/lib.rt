@@ -8,7 +8,7 @@ ghost use Rattle.tables.specs.Tables.{tables};
 ghost use Rattle.tables.specs.Valid.{Valid};
 ghost use Rattle.edges.specs.Edges.{lent};
 ghost use Rattle.edges.specs.Told.{Asked};
-ghost use Rattle.asked.specs.Asks.{Untouched};
+ghost use Rattle.hub_answer.specs.Asks.{Untouched};
 ghost use Rattle.hub_hashes.specs.Operations.{IndexToHash, HashForActorSeq};
 use edges::Edge;
 
@@ -30,7 +30,7 @@ fn index_to_hash_checked(
         return 1;
     }
     let bytes = lookups::index_to_hash(hashes, nodes, targets, nexts, clocks, counts, index, out);
-    asked::listed(bytes, told)
+    hub_answer::listed(bytes, told)
 }
 
 fn index_to_hash_told(
@@ -127,7 +127,7 @@ fn get_hash_for_actor_seq_checked(
         seq,
         out,
     );
-    asked::listed(found, told)
+    hub_answer::listed(found, told)
 }
 
 fn get_hash_for_actor_seq_told(

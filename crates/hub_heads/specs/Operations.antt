@@ -5,8 +5,8 @@ use Prim.Native.Nat.{ℕ}
 use lib.ListN.{length}
 use Rattle.heads.specs.Heads.{head-hashes, head-places}
 use Rattle.tables.specs.Tables.{Tables, graph}
-use Rattle.answers.specs.Answers.{listed, filled}
-use Rattle.asked.specs.Asks.{ofListed, Asks}
+use Rattle.answer_buffer.specs.Answers.{listed, filled}
+use Rattle.hub_answer.specs.Asks.{ofListed, Asks}
 
 -- asking the tables t for the heads' hashes answers r and leaves out′ and told′
 abbrev pub HeadsOf : List ℕ → List ℕ → ℕ → List ℕ → List ℕ → Tables → Type 0

@@ -8,7 +8,7 @@ ghost use Rattle.tables.specs.Tables.{tables};
 ghost use Rattle.tables.specs.Valid.{Valid};
 ghost use Rattle.edges.specs.Edges.{lent};
 ghost use Rattle.edges.specs.Told.{Asked};
-ghost use Rattle.asked.specs.Asks.{Untouched};
+ghost use Rattle.hub_answer.specs.Asks.{Untouched};
 ghost use Rattle.hub_heads.specs.Operations.{HeadsOf, HeadIndexes};
 use edges::Edge;
 
@@ -29,7 +29,7 @@ fn heads_checked(
         return 1;
     }
     let bytes = heads::heads(hashes, nodes, targets, nexts, clocks, counts, out);
-    asked::listed(bytes, told)
+    hub_answer::listed(bytes, told)
 }
 
 fn heads_told(
@@ -110,7 +110,7 @@ fn head_indexes_checked(
         return 1;
     }
     let indexes = heads::head_indexes(hashes, nodes, targets, nexts, clocks, counts, out);
-    asked::listed(indexes, told)
+    hub_answer::listed(indexes, told)
 }
 
 fn head_indexes_told(

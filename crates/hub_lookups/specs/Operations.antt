@@ -4,7 +4,7 @@ use mathlib.Core.List.{List}
 use Prim.Native.Nat.{ℕ}
 use Rattle.tables.specs.Tables.{Tables, graph}
 use Rattle.lookups.specs.Lookups.{looked-up, has}
-use Rattle.asked.specs.Asks.{ofPlace, ofTold, Tells}
+use Rattle.hub_answer.specs.Asks.{ofPlace, ofTold, Tells}
 
 -- asking the tables t for the node of the hash answers r and leaves told′
 abbrev pub HashToIndex : List ℕ → List ℕ → ℕ → List ℕ → Tables → Type 0

@@ -9,7 +9,7 @@ ghost use Rattle.tables.specs.Tables.{tables};
 ghost use Rattle.tables.specs.Valid.{Valid};
 ghost use Rattle.edges.specs.Edges.{lent};
 ghost use Rattle.edges.specs.Told.{Asked};
-ghost use Rattle.asked.specs.Asks.{Untouched};
+ghost use Rattle.hub_answer.specs.Asks.{Untouched};
 ghost use Rattle.hub_lookups.specs.Operations.{HashToIndex, HasChange};
 use edges::Edge;
 
@@ -30,7 +30,7 @@ fn hash_to_index_checked(
         return 1;
     }
     let index = lookups::hash_to_index(hashes, nodes, targets, nexts, clocks, counts, hash);
-    asked::place(index, told)
+    hub_answer::place(index, told)
 }
 
 fn hash_to_index_told(
@@ -111,7 +111,7 @@ fn has_change_checked(
         return 1;
     }
     let known = lookups::has_change(hashes, nodes, targets, nexts, clocks, counts, hash);
-    asked::yes_no(known, told)
+    hub_answer::yes_no(known, told)
 }
 
 fn has_change_told(

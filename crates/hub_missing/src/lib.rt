@@ -8,7 +8,7 @@ ghost use Rattle.tables.specs.Tables.{tables};
 ghost use Rattle.tables.specs.Valid.{Valid};
 ghost use Rattle.edges.specs.Edges.{lent};
 ghost use Rattle.edges.specs.Told.{Asked};
-ghost use Rattle.asked.specs.Asks.{Untouched};
+ghost use Rattle.hub_answer.specs.Asks.{Untouched};
 ghost use Rattle.hub_missing.specs.Operations.{MissingFrom};
 use edges::Edge;
 
@@ -30,7 +30,7 @@ fn missing_checked(
         return 1;
     }
     let bytes = missing::get_hashes(hashes, nodes, targets, nexts, clocks, counts, have, out);
-    asked::listed(bytes, told)
+    hub_answer::listed(bytes, told)
 }
 
 fn missing_told(

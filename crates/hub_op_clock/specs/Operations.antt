@@ -5,7 +5,7 @@ use Prim.Native.Nat.{ℕ}
 use lib.ListN.{length}
 use Rattle.tables.specs.Tables.{Tables}
 use Rattle.op_clock.specs.OpClocks.{op-clock-told, op-clock-filled}
-use Rattle.asked.specs.Asks.{ofListed, Asks}
+use Rattle.hub_answer.specs.Asks.{ofListed, Asks}
 
 -- asking the tables t for the op clock of the list answers r and leaves out′ and told′
 abbrev pub ClockAt : List ℕ → List ℕ → List ℕ → ℕ → List ℕ → List ℕ → Tables → Type 0

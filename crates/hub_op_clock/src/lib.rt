@@ -8,7 +8,7 @@ ghost use Rattle.tables.specs.Tables.{tables};
 ghost use Rattle.tables.specs.Valid.{Valid};
 ghost use Rattle.edges.specs.Edges.{lent};
 ghost use Rattle.edges.specs.Told.{Asked};
-ghost use Rattle.asked.specs.Asks.{Untouched};
+ghost use Rattle.hub_answer.specs.Asks.{Untouched};
 ghost use Rattle.hub_op_clock.specs.Operations.{ClockAt};
 use edges::Edge;
 
@@ -30,7 +30,7 @@ fn clock_at_checked(
         return 1;
     }
     let entries = op_clock::clock_at(hashes, nodes, targets, nexts, clocks, counts, list, out);
-    asked::listed(entries, told)
+    hub_answer::listed(entries, told)
 }
 
 fn clock_at_told(

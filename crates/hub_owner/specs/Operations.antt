@@ -5,9 +5,9 @@ use Prim.Native.Nat.{ℕ}
 use lib.ListN.{length}
 use Rattle.paper.specs.Graph.{owner}
 use Rattle.tables.specs.Tables.{Tables, graph}
-use Rattle.answers.specs.Answers.{node-hash, node-hash-filled}
-use Rattle.answers.specs.declared.Listed.the-variants.{NoOwner}
-use Rattle.asked.specs.Asks.{ofListed, Asks}
+use Rattle.answer_buffer.specs.Answers.{node-hash, node-hash-filled}
+use Rattle.answer_buffer.specs.declared.Listed.the-variants.{NoOwner}
+use Rattle.hub_answer.specs.Asks.{ofListed, Asks}
 
 -- asking the tables t for the owner of the op answers r and leaves out′ and told′
 abbrev pub OwnerOf : ℕ → ℕ → List ℕ → List ℕ → ℕ → List ℕ → List ℕ → Tables → Type 0

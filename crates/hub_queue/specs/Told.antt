@@ -2,7 +2,7 @@
 -- Assumes nothing.
 use mathlib.Core.List.{List}
 use Prim.Native.Nat.{ℕ}
-use Rattle.places.specs.Places.{toldIn}
+use Rattle.lent_place.specs.Places.{toldIn}
 use Rattle.queue.specs.declared.Asked.{Asked}
 use Rattle.queue.specs.declared.Asked.the-variants.{Yes, No, NotValid, Malformed}
 use Rattle.queue.specs.declared.Listed.{Listed}

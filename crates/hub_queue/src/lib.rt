@@ -12,10 +12,10 @@ ghost use Rattle.queue.specs.declared.Asked.the-variants.{NotValid as AskedNot}
 ghost use Rattle.queue.specs.declared.Listed.the-variants.{NotValid as ListedNot};
 ghost use Rattle.branch.specs.Branch.{RemovedTo, numberOf as numberOfRemoved};
 ghost use Rattle.branch.specs.declared.Removed.the-variants.{Done as RemovedDone, NotValid as RemovedNot};
-ghost use Rattle.places.specs.Places.{Numbered};
+ghost use Rattle.lent_place.specs.Places.{Numbered};
 ghost use Rattle.hub_queue.specs.Told.{yesIn, countIn};
 use branch::Removed;
-use places::tell;
+use lent_place::tell;
 use queue::Asked;
 use queue::Handed;
 use queue::Listed;

@@ -10,7 +10,7 @@ use Rattle.waiting.specs.Valid.{Valid as QueueValid}
 use Rattle.release.specs.Release.{Lent, readyOf, releasedAs, ReleasedTo, numberOf}
 use Rattle.release.specs.declared.Released.{Released}
 use Rattle.release.specs.declared.Released.the-variants.{All, Short, NotValid}
-use Rattle.places.specs.Places.{toldIn, Numbered}
+use Rattle.lent_place.specs.Places.{toldIn, Numbered}
 use native.Mathlib.Omega.{arith}
 
 -- the memory that a release may change: the queue's tables, the answer's tables, and the place for the count

@@ -25,7 +25,7 @@ fn tell_count(a: Released, told: &mut [u64])
     ensures { λ r. ⌜ now (told .exit) ≡ countIn a (now (told .entry)) ⌝ }
 {
     match a {
-        Released::All(n) => places::tell(told, n as u64),
+        Released::All(n) => lent_place::tell(told, n as u64),
         Released::Short => {}
         Released::NotValid => {}
     }

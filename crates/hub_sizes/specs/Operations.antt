@@ -5,11 +5,11 @@ use mathlib.Core.List.{List}
 use Prim.Native.Nat.{ℕ, zero, suc}
 use lib.ListN.{length}
 use Rattle.tables.specs.Tables.{Tables, graph, actors}
-use Rattle.answers.specs.Answers.{listed, filled}
+use Rattle.answer_buffer.specs.Answers.{listed, filled}
 use Rattle.lookups.specs.Lookups.{actor-list}
 use Rattle.lookups.specs.declared.Which.{Which}
 use Rattle.lookups.specs.declared.Which.the-variants.{Used, Unused, All}
-use Rattle.asked.specs.Asks.{gives, ofListed, Asks, Tells}
+use Rattle.hub_answer.specs.Asks.{gives, ofListed, Asks, Tells}
 
 -- the actors with changes, without, or all, by a number
 unfoldable pub whichOf : ℕ → Which

@@ -8,13 +8,13 @@ ghost use mathlib.Core.List.{[]};
 ghost use Rattle.tables.specs.Tables.{tables};
 ghost use Rattle.tables.specs.Valid.{Valid};
 ghost use lib.ListN.{length};
-ghost use Rattle.answers.specs.Answers.{listed, filled};
+ghost use Rattle.answer_buffer.specs.Answers.{listed, filled};
 ghost use Rattle.lookups.specs.Lookups.{actor-list};
 ghost use Rattle.edges.specs.Edges.{lent};
 ghost use Rattle.edges.specs.Told.{Asked};
-ghost use Rattle.asked.specs.Asks.{Untouched};
+ghost use Rattle.hub_answer.specs.Asks.{Untouched};
 ghost use Rattle.hub_sizes.specs.Operations.{whichOf, Len, NumActors, ActorIds};
-use answers::Listed;
+use answer_buffer::Listed;
 use edges::Edge;
 use lookups::Which;
 
@@ -34,7 +34,7 @@ fn len_checked(
         return 1;
     }
     let changes = lookups::len(hashes, nodes, targets, nexts, clocks, counts);
-    asked::size(changes, told)
+    hub_answer::size(changes, told)
 }
 
 fn len_told(
@@ -101,7 +101,7 @@ fn num_actors_checked(
         return 1;
     }
     let actors = lookups::num_actors(hashes, nodes, targets, nexts, clocks, counts);
-    asked::size(actors, told)
+    hub_answer::size(actors, told)
 }
 
 fn num_actors_told(
@@ -202,7 +202,7 @@ fn actor_ids_checked(
         return 1;
     }
     let ids = actor_ids_by(hashes, nodes, targets, nexts, clocks, counts, which, out);
-    asked::listed(ids, told)
+    hub_answer::listed(ids, told)
 }
 
 fn actor_ids_told(

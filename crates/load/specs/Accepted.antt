@@ -12,7 +12,8 @@ use lib.Seq.{take-at, drop-at, drop-drop, take-append-le, drop-append-le}
 use borrow.Author.Tests.{eq-eqb, ne-eqb, lt-ltb, le-ltb, le-leb, lt-leb}
 use Rattle.paper.specs.Lists.{mem, tally, sum-below, each-below, sameList, hashAt, hashes-from, hashes-of}
 use Rattle.paper.specs.Numbers.{done}
-use Rattle.paper.specs.Graph.{Graph, node, nodes, heads, Extends}
+use Rattle.paper.specs.Graph.{Graph, node, nodes, heads}
+use Rattle.paper.specs.ProofWords.{Extends}
 use Rattle.paper.specs.Adding.{Hub, Change, Verdict, plain, judged, accepts, seq-for-actor, edges-used, first-unknown, put, grown, added}
 use Rattle.paper.specs.Loading.{Columns, listed, deps-before, deps-of, column-graph, same-hashes, hashes-at, change-of}
 use Rattle.paper.proofs.Bools.{below-suc, or-left, or-right, tally-ext}

@@ -8,7 +8,8 @@ use native.Mathlib.Omega.{arith}
 use lib.Dec.{eqb}
 use Rattle.paper.specs.Lists.{each-below, hashes-of}
 use Rattle.paper.specs.Numbers.{number, done}
-use Rattle.paper.specs.Graph.{Graph, heads, Extends}
+use Rattle.paper.specs.Graph.{Graph, heads}
+use Rattle.paper.specs.ProofWords.{Extends}
 use Rattle.paper.specs.Adding.{Hub, Change, Verdict, plain, outcome, accepts, grown, added as paper-added, judged as paper-judged}
 use Rattle.paper.specs.Loading.{Columns, listed, deps-before, column-graph, same-hashes, change-of, changes-of}
 use Rattle.paper.proofs.Same.{SameGraph, SameHub, heads-same}

@@ -18,8 +18,8 @@ use Rattle.paper.specs.Adding.{seq-for-actor}
 use Rattle.paper.proofs.Bools.{by-bool, and-both, and-fst, and-snd, to-false}
 use Rattle.paper.proofs.First.{first-none, first-is, first-says}
 use Rattle.paper.proofs.Chain.{same-node, node-at}
-use Rattle.answers.specs.declared.Place.the-variants.{At, Malformed, NotFound}
-use Rattle.answers.specs.declared.Told.the-variants.{Yes, No, Malformed as Untold}
+use Rattle.answer_buffer.specs.declared.Place.the-variants.{At, Malformed, NotFound}
+use Rattle.answer_buffer.specs.declared.Told.the-variants.{Yes, No, Malformed as Untold}
 use Rattle.lookups.specs.Lookups.{looked-up, has, largest, among, actor-list}
 
 -- ---- a hash

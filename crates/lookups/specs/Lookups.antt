@@ -8,13 +8,13 @@ use Rattle.paper.specs.Lists.{pick}
 use Rattle.paper.specs.Graph.{Graph, node}
 use Rattle.paper.specs.Adding.{seq-for-actor}
 use Rattle.tables.specs.Tables.{Tables, graph, actors}
-use Rattle.answers.specs.Answers.{one-hash}
-use Rattle.answers.specs.declared.Place.{Place}
-use Rattle.answers.specs.declared.Place.the-variants.{At, Malformed, NotFound}
+use Rattle.answer_buffer.specs.Answers.{one-hash}
+use Rattle.answer_buffer.specs.declared.Place.{Place}
+use Rattle.answer_buffer.specs.declared.Place.the-variants.{At, Malformed, NotFound}
 use Rattle.lookups.specs.declared.Which.{Which}
 use Rattle.lookups.specs.declared.Which.the-variants.{Used, Unused, All}
-use Rattle.answers.specs.declared.Told.{Told}
-use Rattle.answers.specs.declared.Told.the-variants.{Yes, No, Malformed as Untold}
+use Rattle.answer_buffer.specs.declared.Told.{Told}
+use Rattle.answer_buffer.specs.declared.Told.the-variants.{Yes, No, Malformed as Untold}
 
 -- the node that has the hash
 unfoldable pub looked-up : Graph → List ℕ → Place

@@ -10,12 +10,12 @@ ghost use Rattle.paper.specs.Adding.{seq-for-actor};
 ghost use Rattle.tables.specs.Tables.{tables, graph, actors, actorAt, seqAt, maxOpAt};
 ghost use Rattle.tables.specs.Valid.{Valid};
 ghost use Rattle.tables.specs.Node.{foundAs};
-ghost use Rattle.answers.specs.Answers.{node-hash, node-hash-filled, listed, filled};
-ghost use Rattle.answers.specs.declared.Listed.the-variants.{NotFound};
+ghost use Rattle.answer_buffer.specs.Answers.{node-hash, node-hash-filled, listed, filled};
+ghost use Rattle.answer_buffer.specs.declared.Listed.the-variants.{NotFound};
 ghost use Rattle.lookups.specs.Lookups.{looked-up, has, largest, among, actor-list};
-use answers::Listed;
-use answers::Place;
-use answers::Told;
+use answer_buffer::Listed;
+use answer_buffer::Place;
+use answer_buffer::Told;
 use hash::Found;
 
 // Which actors are listed: those with changes, those without, or all.
@@ -89,7 +89,7 @@ pub fn index_to_hash(
     if counts[0] as u64 <= k {
         return Listed::NotFound;
     }
-    answers::hash_into(hashes, k as usize, out)
+    answer_buffer::hash_into(hashes, k as usize, out)
 }
 
 // Which of the first n nodes is the actor's change with the sequence.
@@ -129,7 +129,7 @@ pub fn get_hash_for_actor_seq(
     let Found::At(k) = change_at(nodes, n, actor, seq) else {
         return Listed::NotFound;
     };
-    answers::hash_into(hashes, k, out)
+    answer_buffer::hash_into(hashes, k, out)
 }
 
 // The actor's last change.

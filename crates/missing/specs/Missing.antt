@@ -10,9 +10,9 @@ use Rattle.paper.specs.Lists.{hashes-of}
 use Rattle.paper.specs.Text.{flat}
 use Rattle.paper.specs.Graph.{Graph, nodes, missing}
 use Rattle.tables.specs.Tables.{actorAt, seqAt}
-use Rattle.answers.specs.Answers.{whole-list, listed, filled}
-use Rattle.answers.specs.declared.Listed.{Listed}
-use Rattle.answers.specs.declared.Listed.the-variants.{Done, Malformed}
+use Rattle.answer_buffer.specs.Answers.{whole-list, listed, filled}
+use Rattle.answer_buffer.specs.declared.Listed.{Listed}
+use Rattle.answer_buffer.specs.declared.Listed.the-variants.{Done, Malformed}
 
 -- node k's sequence is above its actor's entry in the clock table
 unfoldable pub above-at : List ℕ → List ℕ → ℕ → Bool

@@ -14,10 +14,10 @@ use Rattle.paper.proofs.Bools.{pick-ext}
 use Rattle.hash.specs.HashLaws.{hash-length}
 use Rattle.tables.specs.Tables.{Tables, changes, actorAt, seqAt, graph}
 use Rattle.tables.specs.Valid.{Valid}
-use Rattle.answers.specs.Answers.{listed, filled}
-use Rattle.answers.specs.Room.{room, actor-low}
-use Rattle.answers.specs.declared.Listed.the-variants.{Done, Malformed}
-use Rattle.questions.specs.Clocks.{clock-entries, Entries}
+use Rattle.answer_buffer.specs.Answers.{listed, filled}
+use Rattle.answer_buffer.specs.Room.{room, actor-low}
+use Rattle.answer_buffer.specs.declared.Listed.the-variants.{Done, Malformed}
+use Rattle.list_clock.specs.Clocks.{clock-entries, Entries}
 use Rattle.missing.specs.Missing.{above-at, Within, missing-hashes, missing-told, missing-filled, shown}
 
 module _ (t : Tables) (v : Valid t) (have clock₀ clock′ : List ℕ) (e : Entries t have clock₀ clock′) where

@@ -8,9 +8,9 @@ ghost use Rattle.paper.specs.Lists.{pick, tally, hashAt};
 ghost use Rattle.paper.specs.Text.{flat};
 ghost use Rattle.tables.specs.Tables.{tables, graph};
 ghost use Rattle.tables.specs.Valid.{Valid};
-ghost use Rattle.answers.specs.Answers.{listed, filled};
+ghost use Rattle.answer_buffer.specs.Answers.{listed, filled};
 ghost use Rattle.missing.specs.Missing.{above-at, Within, missing-told, missing-filled, Shown, shown};
-use answers::Listed;
+use answer_buffer::Listed;
 
 // Is node k's sequence above its actor's entry?
 fn is_above(nodes: &[u32], n: usize, clock: &[u32], k: usize) -> bool
@@ -52,7 +52,7 @@ fn above_into(hashes: &[u8], nodes: &[u32], n: usize, clock: &[u32], out: &mut [
     let mut k = 0;
     while k < n {
         if is_above(nodes, n, clock, k) {
-            answers::put_hash(out, c, hashes, k);
+            answer_buffer::put_hash(out, c, hashes, k);
             c += 32;
         }
         k += 1;
@@ -83,7 +83,7 @@ pub fn get_hashes(
         return Listed::Done(32 * n);
     }
     let mut clock = [0u32; 64];
-    questions::list_clock(
+    list_clock::list_clock(
         hashes,
         nodes,
         targets,

@@ -22,11 +22,11 @@ use Rattle.tables.specs.Valid.{Valid}
 use Rattle.tables.specs.DepsLaws.{valid-graph}
 use Rattle.walk.specs.Whole.{cleared}
 use Rattle.lookups.specs.LookupLaws.{change-says, max-op-known, max-op-none}
-use Rattle.answers.specs.Answers.{listed, filled}
-use Rattle.answers.specs.AnswerLaws.{filled-done}
-use Rattle.answers.specs.Room.{room, actor-low}
-use Rattle.answers.specs.declared.Listed.the-variants.{Malformed}
-use Rattle.questions.specs.Clocks.{clock-entries, Entries}
+use Rattle.answer_buffer.specs.Answers.{listed, filled}
+use Rattle.answer_buffer.specs.AnswerLaws.{filled-done}
+use Rattle.answer_buffer.specs.Room.{room, actor-low}
+use Rattle.answer_buffer.specs.declared.Listed.the-variants.{Malformed}
+use Rattle.list_clock.specs.Clocks.{clock-entries, Entries}
 use Rattle.op_clock.specs.OpClocks.{op-entries, whole-op-clock, op-clock-told, op-clock-filled, latest, latest-at, Placed}
 
 -- ---- the last that passes, where no more than one does

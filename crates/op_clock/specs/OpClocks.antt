@@ -9,9 +9,9 @@ use lib.ListN.{length, getD}
 use Rattle.paper.specs.Lists.{each-below, hashes-of}
 use Rattle.paper.specs.Graph.{Graph, nodes, op-clock}
 use Rattle.tables.specs.Tables.{Tables, graph, actors, actorAt, seqAt, maxOpAt}
-use Rattle.answers.specs.Answers.{whole-list, listed, filled}
-use Rattle.answers.specs.declared.Listed.{Listed}
-use Rattle.answers.specs.declared.Listed.the-variants.{Malformed}
+use Rattle.answer_buffer.specs.Answers.{whole-list, listed, filled}
+use Rattle.answer_buffer.specs.declared.Listed.{Listed}
+use Rattle.answer_buffer.specs.declared.Listed.the-variants.{Malformed}
 
 -- the op clock of the hashes of some bytes, at an actor
 unfoldable pub op-entries : Graph → List ℕ → ℕ → ℕ

@@ -8,7 +8,7 @@ ghost use Rattle.paper.specs.Lists.{each-below};
 ghost use Rattle.tables.specs.Tables.{tables};
 ghost use Rattle.tables.specs.Valid.{Valid};
 ghost use Rattle.op_clock.specs.OpClocks.{latest-at, Placed, op-clock-told, op-clock-filled};
-use answers::Listed;
+use answer_buffer::Listed;
 
 // The max op of a change at its actor's entry, else what stood before.
 fn chosen(seq: u32, entry: u32, max: u32, old: u32) -> u32
@@ -54,7 +54,7 @@ pub fn clock_at(
         return Listed::Short;
     }
     let mut clock = [0u32; 64];
-    questions::list_clock(
+    list_clock::list_clock(
         hashes,
         nodes,
         targets,

@@ -8,10 +8,10 @@ ghost use Rattle.paper.specs.Graph.{owner};
 ghost use Rattle.tables.specs.Tables.{tables, graph};
 ghost use Rattle.tables.specs.Valid.{Valid};
 ghost use Rattle.tables.specs.Node.{foundAs};
-ghost use Rattle.answers.specs.Answers.{node-hash, node-hash-filled};
-ghost use Rattle.answers.specs.declared.Listed.the-variants.{NoOwner};
+ghost use Rattle.answer_buffer.specs.Answers.{node-hash, node-hash-filled};
+ghost use Rattle.answer_buffer.specs.declared.Listed.the-variants.{NoOwner};
 ghost use Rattle.owner.specs.Owns.{owns-at};
-use answers::Listed;
+use answer_buffer::Listed;
 use hash::Found;
 
 // Is node k a change of the actor whose op range holds the counter?
@@ -65,5 +65,5 @@ pub fn opid_to_hash(
     let Found::At(k) = owner_at(nodes, n, actor, counter) else {
         return Listed::NoOwner;
     };
-    answers::hash_into(hashes, k, out)
+    answer_buffer::hash_into(hashes, k, out)
 }

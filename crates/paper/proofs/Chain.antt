@@ -10,7 +10,8 @@ use native.Mathlib.Omega.{arith}
 use lib.Dec.{eqb, ltb, leb}
 use borrow.Author.Tests.{ltb-true, ltb-false, lt-ltb, le-ltb, leb-true, leb-false, le-leb, lt-leb, eqb-true, eqb-false, eq-eqb}
 use Rattle.paper.specs.Lists.{mem, pick, tally, sum-below}
-use Rattle.paper.specs.Graph.{Graph, hist, top, Held, clock-of, clock, Covers, above, missing, shared, Valid, Precedes, ChainedOld, Chained, Closed}
+use Rattle.paper.specs.Graph.{Graph, hist, top, Held, clock-of, clock, Covers, above, missing, shared, Valid, Precedes, ChainedOld, Chained}
+use Rattle.paper.specs.ProofWords.{Closed}
 use Rattle.paper.proofs.Bools.{split, by-bool, not-both, to-false, same-bool, or-cases, or-left, or-right, and-both, and-fst, and-snd, not-is, is-not, below-suc, mem-here, mem-single, mem-pick, pick-mem, pick-ext, tally-ext, tally-up, tally-place, sum-ext, sum-add, sum-zero, sum-one}
 use Rattle.paper.proofs.History.{hist-least, hist-start, hist-known, hist-closed}
 use Rattle.paper.proofs.Clock.{top-upper, top-least, top-attained, top-mono, clock-upper, clock-attained, clock-least, hist-append, hist-node}

@@ -9,7 +9,8 @@ use native.Mathlib.Nat.{eq-or-lt-of-le, le-of-suc-le-suc}
 use lib.Dec.{eqb}
 use native.Mathlib.Omega.{arith}
 use Rattle.paper.specs.Lists.{mem, tally, some-below}
-use Rattle.paper.specs.Graph.{Graph, own, hist, clock, wanted, Valid, Extends, Precedes, Chained}
+use Rattle.paper.specs.Graph.{Graph, own, hist, clock, wanted, Valid, Precedes, Chained}
+use Rattle.paper.specs.ProofWords.{Extends}
 use Rattle.paper.proofs.Bools.{same-bool, by-bool, not-both, to-false, or-cases, or-left, or-right, below-suc, mem-single, tally-ext, some-ext, of-some}
 use Rattle.paper.proofs.History.{hist-least, hist-start, hist-known, hist-closed}
 use Rattle.paper.proofs.Clock.{clock-upper, clock-least, clock-node}

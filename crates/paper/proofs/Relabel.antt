@@ -8,7 +8,8 @@ use native.Mathlib.Omega.{arith}
 use lib.Dec.{eqb}
 use borrow.Author.Tests.{eqb-true, eq-eqb}
 use Rattle.paper.specs.Lists.{mem, tally}
-use Rattle.paper.specs.Graph.{Graph, hist, clock, Valid, Relabels}
+use Rattle.paper.specs.Graph.{Graph, hist, clock, Valid}
+use Rattle.paper.specs.ProofWords.{Relabels}
 use Rattle.paper.proofs.Bools.{same-bool, tally-ext}
 use Rattle.paper.proofs.History.{hist-known}
 use Rattle.paper.proofs.Clock.{clock-upper, clock-least}

@@ -10,7 +10,8 @@ use lib.Dec.{eqb, ltb, leb}
 use lib.ListN.{length}
 use borrow.Author.Tests.{eq-eqb, ne-eqb}
 use Rattle.paper.specs.Lists.{mem, pick, tally, some-below, first-below, sum-below, hashes-of, sameList, ascending}
-use Rattle.paper.specs.Graph.{Graph, node, nodes, hist, clock, above, missing, wanted, head-nodes, heads, in-range, owns, owner, Valid, Extends, Relabels}
+use Rattle.paper.specs.Graph.{Graph, node, nodes, hist, clock, above, missing, wanted, head-nodes, heads, in-range, owns, owner, Valid}
+use Rattle.paper.specs.ProofWords.{Extends, Relabels}
 use Rattle.paper.specs.Adding.{Hub, Change, seq-for-actor, edges-used, first-unknown, accepts, judged, put, grown, added}
 use Rattle.paper.proofs.Bools.{by-bool, below-suc, or-left, or-right, pick-mem, pick-ext, tally-ext, some-ext, sum-ext}
 use Rattle.paper.proofs.First.{first-ext}

@@ -2,8 +2,8 @@
 -- and what chained means. A list of nodes may name numbers that no node has; they count as unknown. Nothing here speaks of tables.
 -- Assumes nothing.
 use mathlib.Core.Path.{_≡_}
-use mathlib.Core.Bool.{Bool, true, false, not, cond, _&&_, _||_}
-use mathlib.Core.List.{List, [], _∷_, _++_, map}
+use mathlib.Core.Bool.{Bool, true, not, cond, _&&_, _||_}
+use mathlib.Core.List.{List, [], _∷_, map}
 use Prim.Native.Nat.{ℕ, zero, suc, _+_, _≤_, _<_, max}
 use lib.Dec.{ltb, leb, eqb}
 use Rattle.paper.specs.Lists.{mem, pick, tally, some-below, all-below, all-in, first-below, keep, sameList, ascending}
@@ -76,11 +76,6 @@ clock-of g h a = top g h (g .size) a
 -- the clock of a list, at the actor a
 unfoldable pub clock : Graph → List ℕ → ℕ → ℕ
 clock g s = clock-of g (hist g s)
-
--- what a walk has still to bring in: the clocks of the nodes below m that w marks, joined
-unfoldable pub front : Graph → (ℕ → Bool) → ℕ → ℕ → ℕ
-front g w zero a = 0
-front g w (suc m) a = max (front g w m a) (cond (w m) (clock g (m ∷ []) a) 0)
 
 -- no entry of d is larger than c's
 unfoldable pub Covers : (ℕ → ℕ) → (ℕ → ℕ) → Type 0
@@ -172,10 +167,6 @@ pub record Precedes (g : Graph) (j k : ℕ) : Type 0 where
 unfoldable pub ChainedOld : Graph → Type 0
 ChainedOld g = (j k : ℕ) → Precedes g j k → mem j (g .deps k) ≡ true
 
--- with a node, the set holds its dependencies
-unfoldable pub Closed : Graph → (ℕ → Bool) → Type 0
-Closed g h = (k j : ℕ) → k < g .size → h k ≡ true → mem j (g .deps k) ≡ true → h j ≡ true
-
 -- R-4: it is in k's history
 unfoldable pub Chained : Graph → Type 0
 Chained g = (j k : ℕ) → Precedes g j k → hist g (k ∷ []) j ≡ true
@@ -186,24 +177,3 @@ chained-old-test g = all-below (λ k. leb (g .seq k) 1 || some-below (λ j. eqb 
 
 unfoldable pub chained-test : Graph → Bool
 chained-test g = all-below (λ k. eqb (g .seq k) (suc (clock g (g .deps k) (g .actor k)))) (g .size)
-
--- the larger graph g′ is g, with more nodes after g's
-pub record Extends (g g′ : Graph) : Type 0 where
-  pub longer : g .size ≤ g′ .size
-  pub hashes : (k : ℕ) → k < g .size → g′ .hash k ≡ g .hash k
-  pub max-ops : (k : ℕ) → k < g .size → g′ .max-op k ≡ g .max-op k
-  pub op-counts : (k : ℕ) → k < g .size → g′ .ops k ≡ g .ops k
-  pub actors : (k : ℕ) → k < g .size → g′ .actor k ≡ g .actor k
-  pub seqs : (k : ℕ) → k < g .size → g′ .seq k ≡ g .seq k
-  pub depss : (k : ℕ) → k < g .size → g′ .deps k ≡ g .deps k
-
--- g′ is g with its actors renumbered by f, which keeps those that have nodes apart
-pub record Relabels (f : ℕ → ℕ) (g g′ : Graph) : Type 0 where
-  pub sizes : g′ .size ≡ g .size
-  pub actors : (k : ℕ) → k < g .size → g′ .actor k ≡ f (g .actor k)
-  pub hashes : (k : ℕ) → k < g .size → g′ .hash k ≡ g .hash k
-  pub seqs : (k : ℕ) → k < g .size → g′ .seq k ≡ g .seq k
-  pub max-ops : (k : ℕ) → k < g .size → g′ .max-op k ≡ g .max-op k
-  pub op-counts : (k : ℕ) → k < g .size → g′ .ops k ≡ g .ops k
-  pub depss : (k : ℕ) → k < g .size → g′ .deps k ≡ g .deps k
-  pub apart : (j k : ℕ) → j < g .size → k < g .size → f (g .actor j) ≡ f (g .actor k) → g .actor j ≡ g .actor k

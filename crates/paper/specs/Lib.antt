@@ -1,6 +1,7 @@
 pub mod Lists
 pub mod Numbers
 pub mod Graph
+pub mod ProofWords
 pub mod Caching
 pub mod Adding
 pub mod Loading

@@ -6,7 +6,7 @@ use mathlib.Core.Logic.{_⊎_}
 use mathlib.Core.Bool.{Bool, true, false, not}
 use lib.ListN.{length, getD, take, drop}
 use Rattle.paper.specs.Lists.{mem, pick, tally}
-use Rattle.laws.specs.Over.{over, part}
+use Rattle.list_laws.specs.Over.{over, part}
 use Rattle.paper.specs.Lists.{hashAt}
 use Rattle.ready.specs.Tables.{depCount}
 

@@ -4,7 +4,7 @@ use mathlib.Core.Path.{_≡_}
 use mathlib.Core.List.{List}
 use Prim.Native.Nat.{ℕ}
 use lib.ListN.{length}
-use Rattle.laws.specs.Over.{over}
+use Rattle.list_laws.specs.Over.{over}
 use Rattle.print.specs.Print.{putAnswer}
 use Rattle.print.specs.declared.Put.{Put}
 use Rattle.print.specs.declared.Put.the-variants.{Next}

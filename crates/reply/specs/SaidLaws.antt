@@ -8,7 +8,7 @@ use native.Mathlib.Omega.{arith}
 use lib.Dec.{leb}
 use lib.ListN.{length, length-append}
 use borrow.Author.Tests.{lt-leb}
-use Rattle.laws.specs.Over.{over, over-length}
+use Rattle.list_laws.specs.Over.{over, over-length}
 use Rattle.paper.specs.Bytes.{bytes}
 use Rattle.paper.specs.Text.{digitsBy, digitsOf}
 use Rattle.paper.specs.Command.{headsWord, clockWord, missingWord, ownerWord, addWord}

@@ -7,12 +7,12 @@ use lib.ListN.{length}
 use Rattle.paper.specs.Adding.{Hub}
 use Rattle.paper.specs.Session.{bench, asking, answers}
 use Rattle.paper.proofs.Same.{SameHub}
-use Rattle.laws.specs.Over.{over}
+use Rattle.list_laws.specs.Over.{over}
 use Rattle.text.specs.Parts.{partsFrom}
 use Rattle.tables.specs.Tables.{Tables, changes, edges, actors}
 use Rattle.tables.specs.Valid.{Valid}
 use Rattle.judge.specs.Hub.{hub}
-use Rattle.step.specs.Step.{Bench}
+use Rattle.session_line.specs.Step.{Bench}
 
 -- line n starts at cur of the input s; the tables t hold the session's graph; what was said so far stands in the buffer up to `at`; and the answer
 -- `text` is that and what the lines from here on say

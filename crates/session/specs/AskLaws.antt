@@ -13,7 +13,7 @@ use Rattle.paper.specs.Adding.{Hub}
 use Rattle.paper.specs.Command.{Command, heads, clock, missing, owner, add, bad, commandOf}
 use Rattle.paper.specs.Session.{Phase, asking, ended, Told, badText, badLine, answer, after, asked, shortLine, longLine, lineStep, ending, answers}
 use Rattle.paper.proofs.Same.{SameHub, hub-trans}
-use Rattle.laws.specs.Over.{over, over-none, over-over}
+use Rattle.list_laws.specs.Over.{over, over-none, over-over}
 use Rattle.text.specs.Parts.{part, partsFrom}
 use Rattle.text.specs.Answers.{lineAt}
 use Rattle.text.specs.declared.Cursor.{Cursor}
@@ -26,8 +26,8 @@ use Rattle.print.specs.Print.{putAnswer}
 use Rattle.print.specs.declared.Put.{Put}
 use Rattle.print.specs.declared.Put.the-variants.{Next, Full}
 use Rattle.reply.specs.Said.{Said}
-use Rattle.step.specs.Step.{tablesAfter, Bench, good}
-use Rattle.step.specs.StepLaws.{after-hub, after-valid, after-bench}
+use Rattle.session_line.specs.Step.{tablesAfter, Bench, good}
+use Rattle.session_line.specs.StepLaws.{after-hub, after-valid, after-bench}
 use Rattle.session.specs.LineLaws.{line-end, line-long, line-open, line-length, line-bounds, line-whole}
 use Rattle.session.specs.BeginLaws.{ended-answers}
 use Rattle.session.specs.SameLaws.{sym-hub, answer-same, after-same}

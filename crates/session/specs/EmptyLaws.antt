@@ -10,7 +10,7 @@ use Rattle.tables.specs.Tables.{Tables, changes, edges, actors, changeRoom, act
 use Rattle.tables.specs.Valid.{Lengths, Valid}
 use Rattle.judge.specs.Hub.{hub}
 use Rattle.graph.specs.Life.{opened-valid}
-use Rattle.step.specs.Step.{Bench}
+use Rattle.session_line.specs.Step.{Bench}
 use Rattle.session.specs.Ask.{Fresh, Empty}
 
 module _ (t : Tables) (n : ℕ) (r : Empty t n) where

@@ -9,7 +9,7 @@ use lib.Dec.{leb}
 use lib.ListN.{length, take, drop, replicate}
 use borrow.Author.Tests.{le-leb, lt-leb}
 use Rattle.paper.specs.Session.{numberIn, lengthIn, bufferIn}
-use Rattle.laws.specs.Over.{over}
+use Rattle.list_laws.specs.Over.{over}
 use Rattle.print.specs.Print.{putAnswer}
 use Rattle.print.specs.declared.Put.{Put}
 use Rattle.print.specs.declared.Put.the-variants.{Next, Full}

@@ -16,9 +16,9 @@ use Rattle.tables.specs.Tables.{Tables, actors}
 use Rattle.print.specs.declared.Put.{Put}
 use Rattle.print.specs.declared.Put.the-variants.{Full as NoRoom}
 use Rattle.reply.specs.Said.{Said}
-use Rattle.step.specs.Step.{tablesAfter, Stepped}
-use Rattle.step.specs.declared.Told.{Told}
-use Rattle.step.specs.declared.Told.the-variants.{Said as Says, Full, Bad}
+use Rattle.session_line.specs.Step.{tablesAfter, Stepped}
+use Rattle.session_line.specs.declared.Told.{Told}
+use Rattle.session_line.specs.declared.Told.the-variants.{Said as Says, Full, Bad}
 use Rattle.session.specs.LineLaws.{line-length, line-bounds}
 use Rattle.session.specs.Ask.{Asking, Fresh}
 use Rattle.session.specs.AskLaws.{asking-start, asking-bad, asking-full, asking-next}

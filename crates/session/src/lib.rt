@@ -12,7 +12,7 @@ ghost use Rattle.session.specs.Ask.{Fresh};
 ghost use Rattle.session.specs.Final.{fitted, sizeOf};
 use command::Actors;
 use print::Put;
-use step::Told;
+use session_line::Told;
 use text::Cursor;
 use text::Next;
 
@@ -87,7 +87,7 @@ fn lines(
             Next::Unended => return reply::put_bad(answer, at, n),
             Next::TooLong => return reply::put_bad(answer, at, n),
             Next::Whole { start, end, next } => {
-                match step::step(
+                match session_line::step(
                     &input[start..end],
                     hashes,
                     nodes,

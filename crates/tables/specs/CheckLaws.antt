@@ -16,7 +16,7 @@ use Rattle.hash.specs.Hash.{findHash}
 use Rattle.hash.specs.HashLaws.{FoundIs, find-is}
 use Rattle.hash.specs.declared.Found.{Found}
 use Rattle.hash.specs.declared.Found.the-variants.{At, Unknown}
-use Rattle.laws.specs.Iff.{Below}
+use Rattle.list_laws.specs.Iff.{Below}
 use Rattle.paper.specs.Lists.{some-below, tally}
 use Rattle.paper.proofs.Bools.{by-bool}
 use Rattle.tables.specs.Tables.{actorAt, seqAt, headAt}

@@ -11,7 +11,7 @@ use lib.Dec.{eqb, leb}
 use lib.ListN.{length, getD}
 use borrow.Author.Count.{below-more}
 use borrow.Author.Tests.{eqb-true, eq-eqb, leb-true, not-true, not-false}
-use Rattle.laws.specs.Iff.{failed}
+use Rattle.list_laws.specs.Iff.{failed}
 use Rattle.paper.specs.Lists.{some-below}
 use Rattle.paper.specs.Queue.{Distinct}
 use Rattle.paper.proofs.Bools.{by-bool, not-both, to-false, or-cases, and-both, and-fst, and-snd, some-of, of-some, below-or-not}

@@ -12,7 +12,7 @@ use lib.Seq.{slice, slice-empty, slice-cons, getD-set-same, getD-set-other}
 use borrow.Author.Tests.{eqb-true, eqb-false, ltb-true, ltb-false, lt-ltb, le-ltb}
 use Rattle.paper.specs.Lists.{mem}
 use Rattle.paper.proofs.Bools.{by-bool, mem-nil, mem-cons}
-use Rattle.laws.specs.Rest.{drop-more}
+use Rattle.list_laws.specs.Rest.{drop-more}
 use Rattle.tables.specs.Tables.{Tables, changes, firstAt, along}
 use Rattle.tables.specs.Valid.{Run, Sound}
 use Rattle.tables.specs.Valid.Run.{last, more}

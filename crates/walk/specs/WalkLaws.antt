@@ -12,7 +12,8 @@ use lib.ListN.{length, getD, set, length-set, List·getD-eq-default}
 use lib.Seq.{getD-set-same, getD-set-other}
 use borrow.Author.Tests.{eqb-true, eqb-false, eq-eqb, ne-eqb, ltb-true, ltb-false, lt-ltb, le-ltb}
 use Rattle.paper.specs.Lists.{mem, pick}
-use Rattle.paper.specs.Graph.{Graph, own, clock, front, look, Valid as ValidGraph}
+use Rattle.paper.specs.Graph.{Graph, own, clock, look, Valid as ValidGraph}
+use Rattle.paper.specs.ProofWords.{front}
 use Rattle.paper.specs.Caching.{left-over}
 use Rattle.paper.proofs.Bools.{by-bool, not-both, to-false, mem-nil, mem-pick, pick-ext}
 use Rattle.paper.proofs.History.{look-at}

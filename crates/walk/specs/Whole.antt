@@ -9,9 +9,10 @@ use native.Mathlib.Omega.{arith}
 use lib.Dec.{eqb, ltb}
 use lib.ListN.{length, getD, set, replicate, length-replicate, getD-replicate, List·getD-eq-default}
 use borrow.Author.Tests.{eqb-true, ltb-true, ltb-false, lt-ltb, le-ltb}
-use Rattle.laws.specs.Blend.{blend, blend-start, blend-length, blend-set, blend-end}
+use Rattle.list_laws.specs.Blend.{blend, blend-start, blend-length, blend-set, blend-end}
 use Rattle.paper.specs.Lists.{mem, each-below}
-use Rattle.paper.specs.Graph.{Graph, clock, front, look, pass, known, hist}
+use Rattle.paper.specs.Graph.{Graph, clock, look, pass, known, hist}
+use Rattle.paper.specs.ProofWords.{front}
 use Rattle.paper.proofs.Bools.{by-bool, not-both, to-false, mem-place, and-both}
 use Rattle.paper.proofs.History.{look-at, hist-known}
 use Rattle.paper.proofs.Walk.{front-start}

@@ -1,11 +1,11 @@
 -- `actors::insert_actor` answers and changes the tables as the definitions say: one law for each answer, and the two loops' promises where it is done.
 -- Assumes nothing.
-use Prim.Native.Nat.{ℕ, _+_}
+use Prim.Native.Nat.{ℕ, _+_, _*_, _≤_}
 use mathlib.Core.Path.{_≡_, refl, sym, ap, ap₂, _∙_}
 use mathlib.Core.List.{List}
 use native.Mathlib.Omega.{arith}
 use borrow.Author.Needs.{needs}
-use lib.ListN.{set}
+use lib.ListN.{length, set}
 use denote.Ref.{now}
 use Rattle.tables.specs.Tables.{Tables, tables, changes, actors, actorRoom}
 use Rattle.actors.specs.Actors.{rowsBy, widen}
@@ -39,7 +39,10 @@ renumber-up-requires : tie.Need-renumber-up-requires
 renumber-up-requires c κs = (room (c .before .before .before .before .before .before .before .before .before .before .before .before .before) .nodes-fit, room (c .before .before .before .before .before .before .before .before .before .before .before .before .before) .actors-low)
 
 widen-rows-requires : tie.Need-widen-rows-requires
-widen-rows-requires c κs = let w = width (c .before .before .before .before .before .before .before) in (rw w (room (c .before .before .before .before .before .before .before .before .before .before .before .before .before .before .before .before .before) .rows-fit), let f = room (c .before .before .before .before .before .before .before .before .before .before .before .before .before .before .before .before .before) .actors-fit in omega (arith, c .before .before .before .before .before .before .if1 .left))
+widen-rows-requires c κs = let s = c .before .before .before .before .before .before .before .before .before .before .before .before .before .before .before .before .before in
+    let w = width (c .before .before .before .before .before .before .before) in
+    let r : changes (T s) * c .before .before .before .before .before .before .before .actor-room .result ≤ length (now (s .args .clocks)) = rw w (room s .rows-fit) in
+    (omega arith, omega (arith, c .before .before .before .before .before .before .if1 .left, c .before .before .before .before .before .if2 .left))
 
 add-counts : tie.Need-add-counts
 add-counts c = let f = room (c .before .before .before .before .before .before .before .before .before .before .before .before .before .before .before .before .before .before .before .before) .actors-fit in let g = room (c .before .before .before .before .before .before .before .before .before .before .before .before .before .before .before .before .before .before .before .before) .room-few in omega arith

@@ -1,4 +1,4 @@
--- `actors::raised` is `raise`: two cases.
+-- `actors::raised` is the clocks' `raised`: two cases.
 -- Assumes nothing.
 use borrow.Author.Needs.{needs}
 use borrow.Author.Tests.{lt-ltb, le-ltb}

@@ -33,7 +33,7 @@ returns : tie.Need-returns
 returns c = (sym (removing-none (T (c .before .before .before .before .before .before .before .before .before .before .before)) (c .before .before .before .before .before .before .before .before .before .before .before .args .place) (c .if1 .taken)), refl)
 
 count-of-requires : tie.Need-count-of-requires
-count-of-requires c κs = room (c .before .before .before .before .before .before .before .before .before .before .before .before) .nodes-fit
+count-of-requires c κs = omega (arith, room (c .before .before .before .before .before .before .before .before .before .before .before .before) .nodes-fit)
 
 returns-2 : tie.Need-returns-2
 returns-2 c = (sym (removing-used (T (c .before .before .before .before .before .before .before .before .before .before .before .before .before .before)) (c .before .before .before .before .before .before .before .before .before .before .before .before .before .before .args .place) (c .before .before .before .if1 .left) (λ q. c .if2 .taken (c .before .count-of .ensures ∙ q))), refl)

@@ -8,7 +8,7 @@ use denote.Ref.{now}
 use native.Mathlib.Omega.{arith}
 use borrow.Author.Needs.{needs}
 use Rattle.paper.specs.Lists.{tally}
-use Rattle.answers.specs.Picking.{tally-hit, tally-miss, tally-fits}
+use Rattle.answer_buffer.specs.Picking.{tally-hit, tally-miss, tally-fits}
 use Rattle.ancestors.specs.Ancestors.{first-kept}
 use Rattle.ancestors.proofs.count_kept.Statement.{statement}
 use Rattle.ancestors.proofs.count_kept.Tie as tie

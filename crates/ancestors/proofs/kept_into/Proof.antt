@@ -9,8 +9,8 @@ use denote.Ref.{now}
 use native.Mathlib.Omega.{arith}
 use borrow.Author.Needs.{needs}
 use Rattle.paper.specs.Lists.{tally}
-use Rattle.answers.specs.AnswerLaws.{listed-short, filled-short}
-use Rattle.answers.specs.Entering.{Entering}
+use Rattle.answer_buffer.specs.AnswerLaws.{listed-short, filled-short}
+use Rattle.answer_buffer.specs.Entering.{Entering}
 use Rattle.ancestors.specs.Ancestors.{kept, first-kept, kept-bytes}
 use Rattle.ancestors.specs.KeptLaws.{kept-to, kept-start, kept-room, enter-room, enter-next, enter-skip}
 use Rattle.ancestors.specs.AncestorLaws.{kept-bytes-long, entered-told, entered-whole}

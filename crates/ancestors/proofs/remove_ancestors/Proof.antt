@@ -6,8 +6,8 @@ use lib.ListN.{length}
 use denote.Ref.{now}
 use borrow.Author.Needs.{needs}
 use Rattle.tables.specs.Tables.{Tables, tables, graph}
-use Rattle.answers.specs.Answers.{listed, filled}
-use Rattle.answers.specs.Room.{room}
+use Rattle.answer_buffer.specs.Answers.{listed, filled}
+use Rattle.answer_buffer.specs.Room.{room}
 use Rattle.ancestors.specs.AncestorLaws.{removed-bytes, list-bad, list-unfilled, heads-bad, heads-unfilled, removed-good, filled-good}
 use Rattle.ancestors.proofs.remove_ancestors.Statement.{statement}
 use Rattle.ancestors.proofs.remove_ancestors.Tie as tie

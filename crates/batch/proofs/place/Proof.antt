@@ -2,7 +2,7 @@
 -- Assumes nothing.
 use mathlib.Core.Path.{refl, ap, _∙_}
 use borrow.Author.Needs.{needs}
-use Rattle.laws.specs.Over.{over}
+use Rattle.list_laws.specs.Over.{over}
 use Rattle.batch.specs.PushLaws.{whole-part}
 use Rattle.batch.proofs.place.Statement.{statement}
 use Rattle.batch.proofs.place.Tie as tie

@@ -4,7 +4,7 @@ use mathlib.Core.Path.{refl}
 use mathlib.Core.Logic.{inl, inr}
 use borrow.Author.Needs.{needs}
 use borrow.Author.Tests.{not-true, not-false}
-use Rattle.laws.specs.Iff.{failed}
+use Rattle.list_laws.specs.Iff.{failed}
 use Rattle.batch.specs.Push.{PushedTo}
 use Rattle.batch.proofs.push.Statement.{statement}
 use Rattle.batch.proofs.push.Tie as tie

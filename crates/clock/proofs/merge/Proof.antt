@@ -3,7 +3,7 @@
 use Prim.Native.Nat.{_-_, _<_, _≤_}
 use mathlib.Core.Path.{_≡_, refl, sym, ap, _∙_}
 use lib.ListN.{length, length-set}
-use Rattle.laws.specs.Blend.{blend, blend-start}
+use Rattle.list_laws.specs.Blend.{blend, blend-start}
 use Rattle.clock.specs.Clock.{joined}
 use Rattle.clock.specs.ClockLaws.{merge-store, merge-keep, merge-past, merge-end}
 use mathlib.Core.Logic.{⊎-elim}

@@ -4,7 +4,7 @@ use lib.ListN.{length}
 use denote.Ref.{now}
 use native.Mathlib.Omega.{arith}
 use Rattle.tables.specs.Tables.{Tables, tables, along}
-use Rattle.answers.specs.Room.{room}
+use Rattle.answer_buffer.specs.Room.{room}
 use Rattle.deps.specs.DepsLaws.{Counting, counting-start, counting-next, counting-end, few, next-in, edge-less}
 use Rattle.deps.proofs.count_deps.Statement.{statement}
 use Rattle.deps.proofs.count_deps.Tie as tie

@@ -5,8 +5,8 @@ use lib.ListN.{length}
 use denote.Ref.{now}
 use native.Mathlib.Omega.{arith}
 use Rattle.tables.specs.Tables.{Tables, tables, graph, along}
-use Rattle.answers.specs.Room.{room}
-use Rattle.answers.specs.AnswerLaws.{holds-whole, holds-told, listed-short, filled-short}
+use Rattle.answer_buffer.specs.Room.{room}
+use Rattle.answer_buffer.specs.AnswerLaws.{holds-whole, holds-told, listed-short, filled-short}
 use Rattle.deps.specs.Deps.{node-deps}
 use Rattle.deps.specs.DepsLaws.{Telling, telling-start, telling-room, telling-next, telling-end, target-in, edge-in, next-in, edge-less, deps-long}
 use Rattle.deps.proofs.deps_into.Statement.{statement}

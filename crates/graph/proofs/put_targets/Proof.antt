@@ -6,7 +6,7 @@ use Rattle.paper.specs.Lists.{hashAt}
 use Rattle.hash.specs.Hash.{findHash}
 use Rattle.hash.specs.HashLaws.{hash-part}
 use Rattle.hash.specs.declared.Found.the-variants.{At}
-use Rattle.laws.specs.Paste.{Pasted, pasted-start, pasted-next, pasted-end}
+use Rattle.list_laws.specs.Paste.{Pasted, pasted-start, pasted-next, pasted-end}
 use Rattle.graph.specs.Place.{nodesOf}
 use Rattle.graph.specs.PlaceLaws.{found-low, none-missing, nodes-long, nodes-found}
 use borrow.Author.Needs.{needs}

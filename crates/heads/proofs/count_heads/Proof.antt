@@ -11,7 +11,7 @@ use mathlib.Core.List.{List}
 use lib.Dec.{eqb}
 use borrow.Author.Tests.{eq-eqb, ne-eqb}
 use Rattle.paper.specs.Lists.{tally}
-use Rattle.answers.specs.Picking.{tally-hit, tally-miss, tally-fits}
+use Rattle.answer_buffer.specs.Picking.{tally-hit, tally-miss, tally-fits}
 use Rattle.heads.proofs.count_heads.Statement.{statement}
 use Rattle.heads.proofs.count_heads.Tie as tie
 

@@ -5,10 +5,10 @@ use lib.ListN.{length, length-replicate}
 use denote.Ref.{now}
 use native.Mathlib.Omega.{arith}
 use Rattle.tables.specs.Tables.{Tables, tables, graph, changes}
-use Rattle.answers.specs.Room.{room}
+use Rattle.answer_buffer.specs.Room.{room}
 use Rattle.paper.specs.Lists.{tally}
 use Rattle.paper.proofs.Count.{tally-most}
-use Rattle.answers.specs.AnswerLaws.{holds-as, holds-whole, holds-told, listed-short, filled-short}
+use Rattle.answer_buffer.specs.AnswerLaws.{holds-as, holds-whole, holds-told, listed-short, filled-short}
 use Rattle.heads.specs.Heads.{head-places}
 use Rattle.heads.specs.HeadLaws.{is-head, flags-count, places-long, list-long, listed-heads, places-are}
 use borrow.Author.Needs.{needs}

@@ -6,10 +6,10 @@ use denote.Ref.{now}
 use native.Mathlib.Omega.{arith}
 use borrow.Author.Needs.{needs}
 use Rattle.tables.specs.Tables.{Tables, tables, graph}
-use Rattle.answers.specs.Room.{room}
+use Rattle.answer_buffer.specs.Room.{room}
 use Rattle.paper.specs.Graph as g
-use Rattle.answers.specs.AnswerLaws.{listed-short, filled-short}
-use Rattle.answers.specs.Entering.{Entering}
+use Rattle.answer_buffer.specs.AnswerLaws.{listed-short, filled-short}
+use Rattle.answer_buffer.specs.Entering.{Entering}
 use Rattle.heads.specs.Heads.{head-hashes}
 use Rattle.heads.specs.HeadLaws.{from-node, head-flag, no-flag, flags-count, heads-long, heads-start, heads-room, heads-next, heads-skip, hashes-long, heads-told, heads-whole, fewer}
 use Rattle.heads.proofs.heads.Statement.{statement}

@@ -8,7 +8,7 @@ use native.Mathlib.Omega.{arith}
 use borrow.Author.Needs.{needs}
 use Rattle.paper.specs.Lists.{hashAt, hashes-from}
 use Rattle.hash.specs.HashLaws.{hash-part}
-use Rattle.answers.specs.AnswerLaws.{Holds, holds-start}
+use Rattle.answer_buffer.specs.AnswerLaws.{Holds, holds-start}
 use Rattle.heads.specs.Heads.{node-in}
 use Rattle.heads.specs.HeadLaws.{asked-next}
 use Rattle.heads.proofs.nodes_into.Statement.{statement}

@@ -2,7 +2,7 @@
 use mathlib.Core.Path.{refl, ap, _∙_}
 use borrow.Author.Tests.{not-true, not-false}
 use denote.Ref.{now}
-use Rattle.laws.specs.Iff.{failed}
+use Rattle.list_laws.specs.Iff.{failed}
 use Rattle.tables.specs.Tables.{Tables, tables}
 use Rattle.tables.specs.Valid.{Valid}
 use Rattle.judge.specs.Judge.{numberOf}

@@ -1,6 +1,6 @@
 -- `hub_batch::cg_batch_push` meets its contract: what a push answers, as its number.
 -- Assumes nothing.
-use Rattle.places.specs.PlacesLaws.{numbered}
+use Rattle.lent_place.specs.PlacesLaws.{numbered}
 use borrow.Author.Needs.{needs}
 use Rattle.hub_batch.proofs.cg_batch_push.Statement.{statement}
 use Rattle.hub_batch.proofs.cg_batch_push.Tie as tie

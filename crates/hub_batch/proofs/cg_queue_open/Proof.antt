@@ -1,6 +1,6 @@
 -- `hub_batch::cg_queue_open` meets its contract: what opening answers, as its number.
 -- Assumes nothing.
-use Rattle.places.specs.PlacesLaws.{numbered}
+use Rattle.lent_place.specs.PlacesLaws.{numbered}
 use borrow.Author.Needs.{needs}
 use Rattle.hub_batch.proofs.cg_queue_open.Statement.{statement}
 use Rattle.hub_batch.proofs.cg_queue_open.Tie as tie

@@ -2,7 +2,7 @@
 -- Written by tools/opgen.py.
 use mathlib.Core.Path.{refl}
 use borrow.Author.Tests.{not-true, not-false}
-use Rattle.asked.specs.AsksLaws.{asks-invalid, asks-valid}
+use Rattle.hub_answer.specs.AsksLaws.{asks-invalid, asks-valid}
 use borrow.Author.Needs.{needs}
 use Rattle.hub_lookups.proofs.has_change_checked.Statement.{statement}
 use Rattle.hub_lookups.proofs.has_change_checked.Tie as tie

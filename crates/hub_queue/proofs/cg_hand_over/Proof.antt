@@ -1,6 +1,6 @@
 -- `hub_queue::cg_hand_over` meets its contract: what handing over answers, as its number.
 -- Assumes nothing.
-use Rattle.places.specs.PlacesLaws.{numbered}
+use Rattle.lent_place.specs.PlacesLaws.{numbered}
 use borrow.Author.Needs.{needs}
 use Rattle.hub_queue.proofs.cg_hand_over.Statement.{statement}
 use Rattle.hub_queue.proofs.cg_hand_over.Tie as tie

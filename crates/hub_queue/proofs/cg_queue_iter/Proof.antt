@@ -1,6 +1,6 @@
 -- `hub_queue::cg_queue_iter` meets its contract: what giving all out answers, as its number and in the lent place.
 -- Assumes nothing.
-use Rattle.places.specs.PlacesLaws.{numbered}
+use Rattle.lent_place.specs.PlacesLaws.{numbered}
 use borrow.Author.Needs.{needs}
 use Rattle.hub_queue.proofs.cg_queue_iter.Statement.{statement}
 use Rattle.hub_queue.proofs.cg_queue_iter.Tie as tie

@@ -1,6 +1,6 @@
 -- `hub_queue::cg_remove_actor_branch_from` meets its contract: what dropping a branch answers, as its number.
 -- Assumes nothing.
-use Rattle.places.specs.PlacesLaws.{numbered}
+use Rattle.lent_place.specs.PlacesLaws.{numbered}
 use borrow.Author.Needs.{needs}
 use Rattle.hub_queue.proofs.cg_remove_actor_branch_from.Statement.{statement}
 use Rattle.hub_queue.proofs.cg_remove_actor_branch_from.Tie as tie

@@ -1,6 +1,6 @@
 -- `hub_release::cg_queue_release` meets its contract: what a release answers, as its number and in the lent place.
 -- Assumes nothing.
-use Rattle.places.specs.PlacesLaws.{numbered}
+use Rattle.lent_place.specs.PlacesLaws.{numbered}
 use borrow.Author.Needs.{needs}
 use Rattle.hub_release.proofs.cg_queue_release.Statement.{statement}
 use Rattle.hub_release.proofs.cg_queue_release.Tie as tie

@@ -4,7 +4,7 @@ use mathlib.Core.Path.{refl}
 use native.Mathlib.Omega.{arith}
 use borrow.Author.Tests.{not-true, not-false}
 use denote.Ref.{now}
-use Rattle.laws.specs.Iff.{failed}
+use Rattle.list_laws.specs.Iff.{failed}
 use Rattle.tables.specs.Tables.{Tables, tables}
 use Rattle.tables.specs.Valid.{Valid}
 use Rattle.hub_release.specs.Operations.{freed-not, freed-valid}

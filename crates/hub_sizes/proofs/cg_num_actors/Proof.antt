@@ -43,8 +43,8 @@ use denote.Triple.Table.{entered, cited}
 use denote.Triple.Walked.{says, Stays, stay-none, stay-none-slice, gave-slice, walkOf, goes-none, goes-none-slice, goes-gave-slice, Walks, ends-at, walked, walk-meets}
 use denote.Exit.{yes}
 use Rattle.hub_sizes.specs.Operations.{NumActors}
-use Rattle.asked.specs.Asks.{Untouched}
-use Rattle.asked.specs.AsksLaws.{asks-refused}
+use Rattle.hub_answer.specs.Asks.{Untouched}
+use Rattle.hub_answer.specs.AsksLaws.{asks-refused}
 use Rattle.tables.specs.Tables.{tables}
 use Rattle.edges.specs.Edges as E
 use Rattle.edges.specs.Edges.{lent, takenTargets, takenNexts, packed}

@@ -7,10 +7,10 @@ use denote.Ref.{now}
 use native.Mathlib.Omega.{arith}
 use borrow.Author.Needs.{needs}
 use Rattle.tables.specs.Tables.{Tables, tables, graph, actors}
-use Rattle.answers.specs.Room.{room}
+use Rattle.answer_buffer.specs.Room.{room}
 use Rattle.paper.specs.Lists.{tally, pick}
-use Rattle.answers.specs.AnswerLaws.{Holds, holds-start, holds-as, holds-whole, holds-told, listed-short, filled-short}
-use Rattle.answers.specs.Picking.{pick-room, pick-put, pick-pass}
+use Rattle.answer_buffer.specs.AnswerLaws.{Holds, holds-start, holds-as, holds-whole, holds-told, listed-short, filled-short}
+use Rattle.answer_buffer.specs.Picking.{pick-room, pick-put, pick-pass}
 use Rattle.lookups.specs.Lookups.{among, actor-list}
 use Rattle.lookups.specs.LookupLaws.{actors-long, actors-all}
 use Rattle.lookups.proofs.actor_ids.Statement.{statement}

@@ -7,7 +7,7 @@ use native.Mathlib.Omega.{arith}
 use borrow.Author.Needs.{needs}
 use Rattle.tables.specs.Tables.{Tables, tables, graph}
 use Rattle.paper.specs.Lists.{tally}
-use Rattle.answers.specs.Picking.{tally-hit, tally-miss, tally-fits}
+use Rattle.answer_buffer.specs.Picking.{tally-hit, tally-miss, tally-fits}
 use Rattle.lookups.specs.Lookups.{among}
 use Rattle.lookups.proofs.count_among.Statement.{statement}
 use Rattle.lookups.proofs.count_among.Tie as tie

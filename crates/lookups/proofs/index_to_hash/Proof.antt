@@ -3,7 +3,7 @@ use mathlib.Core.Path.{sym, _∙_}
 use denote.Ref.{now}
 use borrow.Author.Needs.{needs}
 use Rattle.tables.specs.Tables.{Tables, tables, graph}
-use Rattle.answers.specs.AnswerLaws.{node-told, node-refused, node-filled, node-unfilled}
+use Rattle.answer_buffer.specs.AnswerLaws.{node-told, node-refused, node-filled, node-unfilled}
 use Rattle.lookups.proofs.index_to_hash.Statement.{statement}
 use Rattle.lookups.proofs.index_to_hash.Tie as tie
 

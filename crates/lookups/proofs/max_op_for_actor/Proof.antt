@@ -6,7 +6,7 @@ use denote.Ref.{now}
 use native.Mathlib.Omega.{arith}
 use borrow.Author.Needs.{needs}
 use Rattle.tables.specs.Tables.{Tables, tables, graph, changes, maxOpAt}
-use Rattle.answers.specs.Room.{room}
+use Rattle.answer_buffer.specs.Room.{room}
 use Rattle.paper.specs.Graph.{change-at}
 use Rattle.paper.specs.Adding.{seq-for-actor}
 use Rattle.tables.specs.NodeLaws.{at-node, at-low, unknown-high}

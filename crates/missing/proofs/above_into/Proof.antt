@@ -9,8 +9,8 @@ use borrow.Author.Needs.{needs}
 use mathlib.Core.List.{List, map}
 use Rattle.paper.specs.Lists.{tally, pick, hashAt}
 use Rattle.paper.specs.Text.{flat}
-use Rattle.answers.specs.AnswerLaws.{Holds, holds-start, holds-as, holds-whole, holds-told, listed-short, filled-short}
-use Rattle.answers.specs.Picking.{hashes-length, put-room, put-hit, put-pass}
+use Rattle.answer_buffer.specs.AnswerLaws.{Holds, holds-start, holds-as, holds-whole, holds-told, listed-short, filled-short}
+use Rattle.answer_buffer.specs.Picking.{hashes-length, put-room, put-hit, put-pass}
 use Rattle.missing.specs.Missing.{above-at}
 use Rattle.missing.specs.MissingLaws.{hashes-wide}
 use Rattle.missing.proofs.above_into.Statement.{statement}

@@ -5,7 +5,7 @@ use mathlib.Core.Logic.{⊎-elim}
 use native.Mathlib.Omega.{arith}
 use borrow.Author.Needs.{needs}
 use Rattle.paper.specs.Lists.{tally}
-use Rattle.answers.specs.Picking.{tally-hit, tally-miss, tally-fits}
+use Rattle.answer_buffer.specs.Picking.{tally-hit, tally-miss, tally-fits}
 use Rattle.missing.specs.Missing.{above-at}
 use Rattle.missing.proofs.count_above.Statement.{statement}
 use Rattle.missing.proofs.count_above.Tie as tie

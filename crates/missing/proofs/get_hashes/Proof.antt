@@ -7,8 +7,8 @@ use denote.Ref.{now}
 use native.Mathlib.Omega.{arith}
 use borrow.Author.Needs.{needs}
 use Rattle.tables.specs.Tables.{Tables, tables, graph}
-use Rattle.answers.specs.Room.{room}
-use Rattle.answers.specs.Answers.{listed, filled}
+use Rattle.answer_buffer.specs.Room.{room}
+use Rattle.answer_buffer.specs.Answers.{listed, filled}
 use Rattle.missing.specs.MissingLaws.{missing-is, within, bad-told, bad-filled, empty-told, empty-filled, list-told, list-filled}
 use Rattle.missing.proofs.get_hashes.Statement.{statement}
 use Rattle.missing.proofs.get_hashes.Tie as tie

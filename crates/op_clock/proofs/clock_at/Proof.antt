@@ -2,8 +2,8 @@
 use mathlib.Core.Path.{refl, sym, ap, _∙_}
 use lib.ListN.{length-take}
 use Rattle.tables.specs.Tables.{Tables, tables, actors}
-use Rattle.answers.specs.AnswerLaws.{listed-done, listed-short, filled-short}
-use Rattle.answers.specs.declared.Listed.the-variants.{Done}
+use Rattle.answer_buffer.specs.AnswerLaws.{listed-done, listed-short, filled-short}
+use Rattle.answer_buffer.specs.declared.Listed.the-variants.{Done}
 use Rattle.op_clock.specs.OpClockLaws.{ops-are, placed, ops-bad, unfilled-bad, ops-good, filled-good, ops-long, ops-seam}
 use denote.Ref.{now}
 use native.Mathlib.Omega.{arith}

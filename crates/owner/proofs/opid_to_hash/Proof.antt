@@ -6,14 +6,14 @@ use denote.Ref.{now}
 use native.Mathlib.Omega.{arith}
 use borrow.Author.Needs.{needs}
 use Rattle.tables.specs.Tables.{Tables, tables, graph, changes}
-use Rattle.answers.specs.Room.{room}
+use Rattle.answer_buffer.specs.Room.{room}
 use Rattle.paper.specs.Graph.{owner}
-use Rattle.answers.specs.Answers.{listed, filled}
+use Rattle.answer_buffer.specs.Answers.{listed, filled}
 use Rattle.paper.specs.Lists.{hashAt}
 use Rattle.tables.specs.Node.{foundAs}
 use Rattle.tables.specs.NodeLaws.{at-node, at-low, unknown-high}
 use Rattle.hash.specs.declared.Found.the-variants.{At}
-use Rattle.answers.specs.AnswerLaws.{node-told, node-refused, node-filled, node-unfilled}
+use Rattle.answer_buffer.specs.AnswerLaws.{node-told, node-refused, node-filled, node-unfilled}
 use Rattle.owner.specs.Owns.{owner-is}
 use Rattle.owner.proofs.opid_to_hash.Statement.{statement}
 use Rattle.owner.proofs.opid_to_hash.Tie as tie

@@ -1,6 +1,6 @@
 use Prim.Native.Nat.{_≤_, _-_}
 use mathlib.Core.Path.{_≡_, sym, _∙_}
-use Rattle.laws.specs.Iff.{Below, below-start, below-next, below-end, below-no}
+use Rattle.list_laws.specs.Iff.{Below, below-start, below-next, below-end, below-no}
 use Rattle.tables.specs.Valid.{Distinct}
 use Rattle.tables.specs.CheckLaws.{Fresh, fresh, stale}
 use Rattle.paper.specs.Lists.{hashAt}

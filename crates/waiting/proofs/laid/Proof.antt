@@ -3,7 +3,7 @@
 use native.Mathlib.Omega.{arith}
 use borrow.Author.Needs.{needs}
 use borrow.Author.Tests.{eqb-true, eq-eqb}
-use Rattle.laws.specs.Iff.{no as refused}
+use Rattle.list_laws.specs.Iff.{no as refused}
 use Rattle.waiting.proofs.laid.Statement.{statement}
 use Rattle.waiting.proofs.laid.Tie as tie
 

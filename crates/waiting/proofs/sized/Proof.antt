@@ -3,7 +3,7 @@
 use native.Mathlib.Omega.{arith}
 use borrow.Author.Needs.{needs}
 use borrow.Author.Tests.{leb-true, le-leb, not-true, not-false}
-use Rattle.laws.specs.Iff.{no as refused, failed}
+use Rattle.list_laws.specs.Iff.{no as refused, failed}
 use Rattle.waiting.specs.Valid.{Laid}
 use Rattle.waiting.proofs.sized.Statement.{statement}
 use Rattle.waiting.proofs.sized.Tie as tie

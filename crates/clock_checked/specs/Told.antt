@@ -1,0 +1,98 @@
+-- What the operations on lent clocks answer, and the entries afterwards: `c` the entries lent, `n` how many are in use.
+-- Assumes nothing.
+use Prim.Native.Nat.{ℕ}
+use mathlib.Core.List.{List, _++_}
+use mathlib.Core.Bool.{Bool, true, false, cond}
+use lib.ListN.{length, getD, take, drop}
+use lib.Dec.{eqb, ltb, leb}
+use Rattle.paper.specs.Numbers.{Outcome, number, done, not-valid, no-actor, no-actor-room}
+use Rattle.clock.specs.Clock.{takes, included, joined, coversAll, isolated, opCovers, inserted, removed}
+use Rattle.clock.specs.declared.Entry.{Entry}
+use Rattle.clock.specs.declared.Range.{Range}
+use Rattle.clock.specs.declared.Range.the-variants.{Current, CurrentAt, Diff}
+use Rattle.clock_checked.specs.declared.Got.{Got}
+use Rattle.clock_checked.specs.declared.Got.the-variants as got
+use Rattle.clock_checked.specs.declared.Answer.{Answer}
+use Rattle.clock_checked.specs.declared.Answer.the-variants.{Done, Yes, No, NotValid, NoPlace, NoRoom}
+
+-- the paper's outcome and number of each answer
+abbrev pub outcome : Answer → Outcome
+outcome Done = done
+outcome Yes = done
+outcome No = done
+outcome NotValid = not-valid
+outcome NoPlace = no-actor
+outcome NoRoom = no-actor-room
+
+abbrev pub numberOf : Answer → ℕ
+numberOf a = number (outcome a)
+
+-- 1 for yes
+abbrev pub yesOf : Answer → ℕ
+yesOf Done = 0
+yesOf Yes = 1
+yesOf No = 0
+yesOf NotValid = 0
+yesOf NoPlace = 0
+yesOf NoRoom = 0
+
+-- the same of the answer that holds an entry
+abbrev pub outcomeGot : Got → Outcome
+outcomeGot (got.Entry x) = done
+outcomeGot got.NotValid = not-valid
+
+abbrev pub numberGot : Got → ℕ
+numberGot g = number (outcomeGot g)
+
+abbrev pub yesNo : Bool → Answer
+yesNo b = cond b Yes No
+
+-- an answer beside the entries afterwards
+pub record Told : Type 0 where
+  pub answer : Answer
+  pub entries : List ℕ
+
+abbrev pub told : Answer → List ℕ → Told
+told r c = record { answer = r; entries = c }
+
+abbrev pub getTold : List ℕ → ℕ → ℕ → Got
+getTold c n a = cond (ltb (length c) n) got.NotValid (got.Entry (getD (take n c) a 0))
+
+abbrev pub includeTold : List ℕ → ℕ → ℕ → Entry → Told
+includeTold c n a e = cond (ltb (length c) n) (told NotValid c) (cond (leb n a) (told NoPlace c) (told (yesNo (takes (getD c a 0) e)) (included c a e)))
+
+-- b's entries are lent beside, m of them in use
+abbrev pub mergeTold : List ℕ → ℕ → List ℕ → ℕ → Told
+mergeTold c n b m = cond (ltb (length c) n) (told NotValid c) (cond (ltb (length b) m) (told NotValid c) (told Done (joined (take n c) (take m b) ++ drop n c)))
+
+abbrev pub coversTold : List ℕ → ℕ → List ℕ → ℕ → Answer
+coversTold c n b m = cond (ltb (length c) n) NotValid (cond (ltb (length b) m) NotValid (cond (eqb n m) (yesNo (coversAll (take n c) (take m b))) NotValid))
+
+abbrev pub isolateTold : List ℕ → ℕ → ℕ → Told
+isolateTold c n a = cond (ltb (length c) n) (told NotValid c) (cond (leb n a) (told NoPlace c) (told Done (isolated c a)))
+
+abbrev pub opTold : List ℕ → ℕ → ℕ → ℕ → Answer
+opTold c n a counter = cond (ltb (length c) n) NotValid (cond (leb n a) NoPlace (yesNo (opCovers c a counter)))
+
+abbrev pub insertTold : List ℕ → ℕ → ℕ → Told
+insertTold c n p = cond (ltb (length c) n) (told NotValid c) (cond (ltb n p) (told NoRoom c) (cond (leb (length c) n) (told NoRoom c) (told Done (inserted c n p))))
+
+abbrev pub removeTold : List ℕ → ℕ → ℕ → Told
+removeTold c n p = cond (ltb (length c) n) (told NotValid c) (cond (leb n p) (told NoPlace c) (told Done (removed c n p)))
+
+-- of a range the two clocks are lent: b with n entries in use, and c with m
+abbrev pub seenAfter : Range → List ℕ → ℕ → ℕ → ℕ → Answer
+seenAfter Current c m a counter = Yes
+seenAfter CurrentAt c m a counter = opTold c m a counter
+seenAfter Diff c m a counter = opTold c m a counter
+
+abbrev pub afterTold : Range → List ℕ → ℕ → List ℕ → ℕ → ℕ → ℕ → Answer
+afterTold kind b n c m a counter = cond (ltb (length b) n) NotValid (cond (ltb (length c) m) NotValid (seenAfter kind c m a counter))
+
+abbrev pub seenBefore : Range → List ℕ → ℕ → ℕ → ℕ → Answer
+seenBefore Current b n a counter = No
+seenBefore CurrentAt b n a counter = No
+seenBefore Diff b n a counter = opTold b n a counter
+
+abbrev pub beforeTold : Range → List ℕ → ℕ → List ℕ → ℕ → ℕ → ℕ → Answer
+beforeTold kind b n c m a counter = cond (ltb (length b) n) NotValid (cond (ltb (length c) m) NotValid (seenBefore kind b n a counter))

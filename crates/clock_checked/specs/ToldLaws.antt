@@ -1,0 +1,45 @@
+-- Every number but 0 leaves the entries as they were.
+-- Assumes nothing.
+use mathlib.Core.Path.{_≡_, refl}
+use mathlib.Core.List.{List, _++_}
+use mathlib.Core.Bool.{Bool, true, false, cond}
+use Prim.Native.Nat.{ℕ}
+use lib.Dec.{ltb, leb}
+use lib.ListN.{length, getD, take, drop}
+use Rattle.clock.specs.Clock.{takes, included, joined, isolated, inserted, removed}
+use Rattle.clock_checked.specs.Told.{Told, told, numberOf, yesNo, includeTold, mergeTold, isolateTold, insertTold, removeTold}
+use Rattle.clock.specs.declared.Entry.{Entry}
+use Rattle.clock_checked.specs.declared.Answer.{Answer}
+use Rattle.clock_checked.specs.declared.Answer.the-variants.{Done, NotValid, NoPlace, NoRoom}
+
+abbrev pub Keeps : Told → List ℕ → Type 0
+Keeps t c = (numberOf (t .answer) ≡ 0 → ⊥) → t .entries ≡ c
+
+-- a refusal, and then the rest
+refuses : (b : Bool) (r : Answer) (c : List ℕ) (t : Told) → Keeps t c → Keeps (cond b (told r c) t) c
+refuses true r c t k = λ n. refl
+refuses false r c t k = k
+
+fulfils : (r : Answer) (d c : List ℕ) → numberOf r ≡ 0 → Keeps (told r d) c
+fulfils r d c z = λ n. absurd (n z)
+
+yes-or-no : (b : Bool) → numberOf (yesNo b) ≡ 0
+yes-or-no true = refl
+yes-or-no false = refl
+
+module _ (c : List ℕ) (n : ℕ) where
+  pub include-keeps : (a : ℕ) (e : Entry) → Keeps (includeTold c n a e) c
+  include-keeps a e =
+      refuses (ltb (length c) n) NotValid c _ (refuses (leb n a) NoPlace c _ (fulfils (yesNo (takes (getD c a 0) e)) (included c a e) c (yes-or-no (takes (getD c a 0) e))))
+
+  pub merge-keeps : (b : List ℕ) (m : ℕ) → Keeps (mergeTold c n b m) c
+  merge-keeps b m = refuses (ltb (length c) n) NotValid c _ (refuses (ltb (length b) m) NotValid c _ (fulfils Done (joined (take n c) (take m b) ++ drop n c) c refl))
+
+  pub isolate-keeps : (a : ℕ) → Keeps (isolateTold c n a) c
+  isolate-keeps a = refuses (ltb (length c) n) NotValid c _ (refuses (leb n a) NoPlace c _ (fulfils Done (isolated c a) c refl))
+
+  pub insert-keeps : (p : ℕ) → Keeps (insertTold c n p) c
+  insert-keeps p = refuses (ltb (length c) n) NotValid c _ (refuses (ltb n p) NoRoom c _ (refuses (leb (length c) n) NoRoom c _ (fulfils Done (inserted c n p) c refl)))
+
+  pub remove-keeps : (p : ℕ) → Keeps (removeTold c n p) c
+  remove-keeps p = refuses (ltb (length c) n) NotValid c _ (refuses (leb n p) NoPlace c _ (fulfils Done (removed c n p) c refl))

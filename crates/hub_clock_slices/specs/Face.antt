@@ -1,0 +1,47 @@
+-- What the operations on lent clocks come to from C: the number, the entries afterwards, and what is told in a lent place.
+-- Assumes nothing.
+use mathlib.Core.Path.{_≡_}
+use mathlib.Core.List.{List}
+use mathlib.Core.Bool.{cond}
+use Prim.Native.Nat.{ℕ}
+use lib.Dec.{eqb}
+use Rattle.clock.specs.declared.Range.{Range}
+use Rattle.clock.specs.declared.Range.the-variants.{Current, CurrentAt, Diff}
+use Rattle.clock_checked.specs.Told.{Told, numberOf, numberGot}
+use Rattle.clock_checked.specs.declared.Answer.{Answer}
+use Rattle.clock_checked.specs.declared.Answer.the-variants.{Done, Yes, No, NotValid, NoPlace, NoRoom}
+use Rattle.clock_checked.specs.declared.Got.{Got}
+use Rattle.clock_checked.specs.declared.Got.the-variants as got
+use Rattle.lent_place.specs.Places.{toldIn}
+
+-- yes is told as 1 and no as 0; any other answer leaves the place as it was
+abbrev pub yesIn : Answer → List ℕ → List ℕ
+yesIn Yes l = toldIn 1 l
+yesIn No l = toldIn 0 l
+yesIn Done l = l
+yesIn NotValid l = l
+yesIn NoPlace l = l
+yesIn NoRoom l = l
+
+-- the entry is told; a refusal leaves the place as it was
+abbrev pub entryIn : Got → List ℕ → List ℕ
+entryIn (got.Entry x) l = toldIn x l
+entryIn got.NotValid l = l
+
+-- a question that is answered a: the number r, and the place, which held l, holds l′
+pub record Asked (a : Answer) (l : List ℕ) (r : ℕ) (l′ : List ℕ) : Type 0 where
+  pub number : r ≡ numberOf a
+  pub place : l′ ≡ yesIn a l
+
+pub record Gave (g : Got) (l : List ℕ) (r : ℕ) (l′ : List ℕ) : Type 0 where
+  pub number : r ≡ numberGot g
+  pub place : l′ ≡ entryIn g l
+
+-- a change that comes to t: the number r, and the entries c′
+pub record Changed (t : Told) (r : ℕ) (c′ : List ℕ) : Type 0 where
+  pub number : r ≡ numberOf (t .answer)
+  pub entries : c′ ≡ t .entries
+
+-- the kind of a range from its number: 0, 1, and 2 or any larger number
+abbrev pub rangeOf : ℕ → Range
+rangeOf k = cond (eqb k 0) Current (cond (eqb k 1) CurrentAt Diff)

@@ -1,0 +1,37 @@
+-- `hub_current_heads::heads_are_current_checked` meets its contract: on valid tables the number, the buffer and what is told are the core's, and else nothing changes. Assumes nothing.
+-- Written by tools/opgen.py.
+use mathlib.Core.Path.{refl}
+use borrow.Author.Tests.{not-true, not-false}
+use Rattle.hub_answer.specs.AsksLaws.{asks-invalid, asks-valid}
+use borrow.Author.Needs.{needs}
+use Rattle.hub_current_heads.proofs.heads_are_current_checked.Statement.{statement}
+use Rattle.hub_current_heads.proofs.heads_are_current_checked.Tie as tie
+
+valid-requires : tie.Need-valid-requires
+valid-requires c κs = search needs
+
+returns : tie.Need-returns
+returns c = asks-invalid _ _ _ _ _ _ (c .before .valid .ensures) (not-true _ (c .if1 .taken))
+
+heads-are-current-requires : tie.Need-heads-are-current-requires
+heads-are-current-requires c κs = c .before .valid .ensures .0 (not-false _ (c .if1 .left))
+
+yes-no-requires : tie.Need-yes-no-requires
+yes-no-requires c κs = search needs
+
+same-length : tie.Need-same-length
+same-length c = search needs
+
+returns-2 : tie.Need-returns-2
+returns-2 c = asks-valid _ _ _ _ _ _ _ _ _ (c .before .before .before .before .before .before .valid .ensures .0 (not-false _ (c .before .before .before .before .before .if1 .left))) _ (c .before .before .before .before .heads-are-current .ensures) refl (c .before .before .yes-no .ensures .0) (c .before .before .yes-no .ensures .1)
+
+pub heads-are-current-checked-spec : {M : Type 1} → statement M
+heads-are-current-checked-spec =
+    tie.close
+    (tie.spec
+    valid-requires
+    returns
+    heads-are-current-requires
+    yes-no-requires
+    same-length
+    returns-2)
