@@ -1,3 +1,5 @@
+-- The invariant, `Pasted`: the nodes of the first i dependencies are written, and the length stays. The measure: the dependencies left.
+-- None is unknown, so each is found, below n, and the early return is never taken. Assumes nothing.
 use Prim.Native.Nat.{_≤_, _-_, _/_}
 use mathlib.Core.Path.{_≡_, sym, _∙_}
 use lib.ListN.{length}

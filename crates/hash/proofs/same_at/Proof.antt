@@ -1,3 +1,4 @@
+-- The invariant: from byte j on the two hashes are the same exactly if they are as a whole. The measure: the bytes left. Assumes nothing.
 use Prim.Native.Nat.{_-_, _≤_}
 use mathlib.Core.Path.{_≡_, refl, sym, _∙_}
 use lib.ListN.{drop}

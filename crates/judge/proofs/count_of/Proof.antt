@@ -1,3 +1,4 @@
+-- The invariant: c of the first k nodes are the actor's. The measure: the nodes left. Assumes nothing.
 use Prim.Native.Nat.{_≤_, _-_, _+_, _*_}
 use mathlib.Core.Path.{_≡_, refl, ap}
 use mathlib.Core.Bool.{Bool, cond}

@@ -1,3 +1,4 @@
+-- The invariant: each of the first j hashes differs from those before it. The measure: the hashes left. Assumes nothing.
 use Prim.Native.Nat.{_≤_, _-_}
 use mathlib.Core.Path.{_≡_, sym, _∙_}
 use Rattle.list_laws.specs.Iff.{Below, below-start, below-next, below-end, below-no}
