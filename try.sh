@@ -28,10 +28,14 @@ home="$(cd "$(dirname "$0")" && pwd)"
 list="$(mktemp)"
 answer="$(mktemp)"
 trap 'rm -f "$list" "$answer"' EXIT
+named=- # the list as the tool is to name it: a file of the user's, or standard input
 case "${1:-}" in
 "") cp "$home/examples/worked.list" "$list" ;;
 -) cat >"$list" ;;
-*) cat -- "$1" >"$list" || exit 2 ;;
+*)
+  cat -- "$1" >"$list" || exit 2
+  [ ! -f "$1" ] || named="$(realpath -- "$1")"
+  ;;
 esac
 cd "$home"
 . host/machine.sh
@@ -60,12 +64,12 @@ tool() {
 explained() { # WORD..
   local sysroot=""
   [ -z "$EMULATOR" ] || sysroot="-L /usr/x86_64-linux-gnu"
-  $EMULATOR $sysroot target/host/explain "$@"
+  $EMULATOR $sysroot target/host/explain "$@" "$named" <"$list"
 }
 if [ -n "$explain" ]; then
   tool || { echo "to explain, a C compiler for x86-64 is needed" >&2; exit 3; }
   status=0
-  explained --explain "$list" || status=$?
+  explained --explain || status=$?
   exit "$status"
 fi
 
@@ -83,7 +87,7 @@ fi
 bad="$(tail -n 1 "$answer" | sed -n 's/^bad\t//p')"
 if [ -n "$bad" ]; then
   if tool; then
-    explained "$list" >/dev/null || true
+    explained >/dev/null || true
   else
     echo "line $bad is none of a change list: docs/CHANGE-LIST.md says what a line must be" >&2
   fi

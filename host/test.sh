@@ -36,11 +36,27 @@ for test in graph_test questions_test queue_test load_test session_test; do
 done
 ran "the C tests${MEMCHECK:+, under valgrind}${sanitize:+, with sanitizers}"
 
-# A hub in small, and the session's tool.
+# A hub in small, and the session's tool on lists that are right.
 $CC $CFLAGS host/example.c target/libchangegraph.a -o target/host/example
 $RUN target/host/example | cmp - host/example.out
 echo "example: writes what host/example.out has"
-$CC $CFLAGS host/session.c target/libchangegraph.a -o target/host/session
-$RUN target/host/session examples/worked.list | cmp - examples/worked.answer
-echo "session: examples/worked.list has its answer"
-ran "the example in C and the session's tool"
+$CC $CFLAGS host/session.c host/reasons.c target/libchangegraph.a -o target/host/session
+for list in worked worked-clocks unchained; do
+  $RUN target/host/session "examples/$list.list" | cmp - "examples/$list.answer"
+done
+echo "session: the lists of examples/ have their answers"
+
+# What the same tool says of wrong lists; and its reading of a line against the session's, over lists changed at random.
+host/session_tool_test.sh $RUN target/host/session
+$CC $CFLAGS host/reasons_test.c host/reasons.c target/libchangegraph.a -o target/host/reasons_test
+$RUN target/host/reasons_test
+if [ -n "$MEMCHECK" ]; then
+  $MEMCHECK target/host/reasons_test 100
+fi
+if [ -n "$sanitize" ]; then
+  $CC $CFLAGS $sanitize host/session.c host/reasons.c target/libchangegraph.a -o target/host/session.sanitized
+  host/session_tool_test.sh target/host/session.sanitized
+  $CC $CFLAGS $sanitize host/reasons_test.c host/reasons.c target/libchangegraph.a -o target/host/reasons_test.sanitized
+  target/host/reasons_test.sanitized 10
+fi
+ran "the example in C, and the session's tool on right and wrong lists"

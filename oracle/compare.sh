@@ -37,7 +37,7 @@ target/oracle/release/oracle check
 target/oracle/release/oracle fuzz "$seed" "$rounds" "$host" | tail -n 2
 
 # Random text sessions, through the C function and through the Rust.
-$CC $CFLAGS host/session.c target/libchangegraph.a -o target/host/session
+$CC $CFLAGS host/session.c host/reasons.c target/libchangegraph.a -o target/host/session
 sessions=0
 for each in $(seq "$seed" $((seed + 39))); do
   target/oracle/release/oracle gen-session "$each" 400 >target/host/random.list

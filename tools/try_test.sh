@@ -44,7 +44,7 @@ run 2 "$room/nothing" "$room/none.list"
 head -c 65537 /dev/zero >"$room/long.list"
 run 2 "$room/nothing" "$room/long.list"
 said "65,536"
-{ printf 'change list\t1\nactors\t16\n' && yes $'clock\t-' | head -n 3000; } >"$room/asks.list"
+{ printf 'change list\t1\nactors\t16\n' && seq 3000 | sed $'s/.*/clock\t-/'; } >"$room/asks.list"
 run 2 "$room/nothing" "$room/asks.list"
 said "65,536"
 run 2 "$room/nothing" --unknown
