@@ -45,7 +45,7 @@ todo="$(tools/prove.sh --todo bench | wc -l)"
 if [ "$todo" -gt 0 ]; then
   jobs="${RT_JOBS:-$(getconf _NPROCESSORS_ONLN)}"
   [ "$jobs" -le 4 ] || jobs=4
-  echo "first $todo crates are proved: about $((todo * 15 / jobs / 60 + 1)) minutes. Later runs take seconds." >&2
+  echo "first $todo crates are proved: about $((todo * 20 / jobs / 60 + 1)) minutes. Later runs take seconds." >&2
 fi
 tools/prove.sh bench >&2 || exit 3
 
