@@ -75,13 +75,13 @@ fi
 
 # ---- the answer
 if [ "$(wc -c <"$list")" -gt 65536 ]; then
-  echo "the list has more than 65,536 bytes, and the program bench answers none so long" >&2
+  echo "the list has more than 65,536 bytes, and the program bench answers none so long; with --explain there is room for 1,048,576" >&2
   exit 2
 fi
 $EMULATOR "$KIT/toolchain/lib/ld-linux-x86-64.so.2" --library-path "$KIT/toolchain/lib" target/bin/bench <"$list" >"$answer" || exit 3
 cat "$answer"
 if [ ! -s "$answer" ] && [ "$(wc -l <"$list")" -gt 2 ]; then
-  echo "the answer has more than 65,536 bytes, and the program bench writes none so long" >&2
+  echo "the answer has more than 65,536 bytes, and the program bench writes none so long; with --explain there is room for 16,777,216" >&2
   exit 2
 fi
 bad="$(tail -n 1 "$answer" | sed -n 's/^bad\t//p')"
