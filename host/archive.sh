@@ -16,7 +16,7 @@ crates="session clock_struct hub_clock_slices hub_open hub_add hub_actors hub_lo
 crates="$crates hub_lookups hub_deps hub_ancestors hub_chained hub_counts hub_sizes hub_batch hub_queue hub_release"
 total="$(printf '%s\n' $crates | wc -l)"
 needed="$(for crate in $crates; do sed -n "s/^$crate: *//p" crates.txt; done | tr ' ' '\n' | sort -u)"
-echo "proving what the archive needs"
+echo "proving what the archive needs, where that was not done before"
 RT_JOBS="$jobs" tools/prove.sh $needed
 
 # Each archive is made in a folder of its own: rt keeps its verdicts under target/log, and two of it may not share them. What is proved is shared.

@@ -1,6 +1,6 @@
 #!/usr/bin/env bash
-# Proves the named crates and all that they depend on: prove.sh CRATE.. . One line for each crate as it is done ("7 of 23, print, 12 s"); those that were proved
-# before and are unchanged share a line at the end. What the prover says goes to target/prove.log, and its end is shown where a crate is not proved.
+# Proves the named crates and all that they depend on: prove.sh CRATE.. . One line for each crate as it is done ("7 of 23, print, 12 s"); where some were proved
+# before and are unchanged, these share a line at the end; where all were, it says nothing. What the prover says goes to target/prove.log, and its end is shown where a crate is not proved.
 # prove.sh --todo CRATE.. lists those of them that were never proved here, a line each. RT_JOBS says how many are proved at a time.
 set -euo pipefail
 cd "$(dirname "$0")/.."
@@ -43,7 +43,7 @@ if ! rt check "$@" 2>&1 | tee target/prove.log | {
     *) echo "$at of $total, ${BASH_REMATCH[1]}, ${BASH_REMATCH[2]}" ;;
     esac
   done
-  [ "$before" = 0 ] || echo "$before of $total were proved before"
+  [ "$before" = 0 ] || [ "$before" = "$at" ] || echo "$before of $total were proved before"
 }; then
   grep -v 'was not admitted' target/prove.log | cut -c 1-300 | tail -n 30 >&2
   echo "not proved; target/prove.log has all that was said" >&2
