@@ -33,16 +33,11 @@ def levels(groups):
     home = {c: g.name for g in groups for c, _, _ in g.crates}
     cites = {g.name: {home[d] for _, _, ds in g.crates for d in ds if d in home} - {g.name} for g in groups}
     level = {}
-
-    def rank(name, above=()):
-        if name in above:
-            raise SystemExit(f"crates.txt: the groups cite each other in a ring: {' '.join(above)} {name}")
-        if name not in level:
-            level[name] = 1 + max((rank(n, above + (name,)) for n in cites[name]), default=-1)
-        return level[name]
-
     for g in groups:
-        rank(g.name)
+        later = [n for n in cites[g.name] if n not in level]
+        if later:
+            raise SystemExit(f"crates.txt: the group {g.name} cites {later[0]}, which stands after it")
+        level[g.name] = 1 + max((level[n] for n in cites[g.name]), default=-1)
 
     def reached(name):
         return cites[name].union(*(reached(n) for n in cites[name])) if cites[name] else set()

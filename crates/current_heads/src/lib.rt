@@ -53,7 +53,7 @@ fn listed_are_heads(hashes: &[u8], nodes: &[u32], n: usize, list: &[u8]) -> bool
 }
 
 // Is the hash listed?
-pub fn is_listed(list: &[u8], hash: &[u8]) -> bool
+fn is_listed(list: &[u8], hash: &[u8]) -> bool
     requires { ⌜ length (now hash) ≡ 32 ⌝ }
     ensures { λ r. ⌜ r ≡ names (now (hash .entry)) (hashes-of (now (list .entry))) ⌝ }
 {
