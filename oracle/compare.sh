@@ -7,7 +7,13 @@ cd "$(dirname "$0")/.."
 . host/toolchain.sh
 source="${AUTOMERGE_SRC:-oracle/../../shared/docs/src}"
 lacks=""
-need cargo cargo || lacks="no cargo"
+# The Rust text needs Rust 1.82 or later: Debian 12 has it in cargo-web and rustc-web, later releases in cargo and rustc.
+if need cargo cargo-web rustc-web || need cargo cargo rustc; then
+  minor="$(cargo --version | sed -nE 's/^cargo 1\.([0-9]+)\..*/\1/p')"
+  [ "${minor:-0}" -ge 82 ] || lacks="cargo is older than 1.82, which the Rust text needs"
+else
+  lacks="no cargo"
+fi
 [ -n "$CC" ] || lacks="no C compiler for x86-64"
 [ -d "$source" ] || lacks="no Rust text: AUTOMERGE_SRC is to name the folder of automerge's src/"
 if [ "${1:-}" = --ready ]; then
