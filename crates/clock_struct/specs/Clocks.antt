@@ -4,6 +4,7 @@ use Prim.Native.Nat.{ℕ}
 use mathlib.Core.List.{List}
 use mathlib.Core.Bool.{cond}
 use lib.Dec.{eqb}
+use Rattle.paper.specs.Numbers.{number, done as finished}
 use Rattle.clock_checked.specs.Told.{Told, numberOf, yesOf, includeTold, mergeTold, isolateTold, coversTold}
 use Rattle.clock.specs.declared.Entry.the-variants.{Sequence}
 use Rattle.clock_checked.specs.declared.Answer.{Answer}
@@ -18,7 +19,7 @@ done r y c = record { number = r; yes = y; entries = c }
 
 -- where the number is 0 yes is 1 and no is 0; every other number leaves what stood there
 abbrev pub doneOf : Told → ℕ → Done
-doneOf t old = done (numberOf (t .answer)) (cond (eqb (numberOf (t .answer)) 0) (yesOf (t .answer)) old) (t .entries)
+doneOf t old = done (numberOf (t .answer)) (cond (eqb (numberOf (t .answer)) (number finished)) (yesOf (t .answer)) old) (t .entries)
 
 abbrev pub includeDone : List ℕ → ℕ → ℕ → ℕ → ℕ → Done
 includeDone c n a x old = doneOf (includeTold c n a (Sequence x)) old
@@ -42,7 +43,7 @@ abbrev pub asked : ℕ → ℕ → Asked
 asked r y = record { number = r; yes = y }
 
 abbrev pub askedOf : Answer → ℕ → Asked
-askedOf a old = asked (numberOf a) (cond (eqb (numberOf a) 0) (yesOf a) old)
+askedOf a old = asked (numberOf a) (cond (eqb (numberOf a) (number finished)) (yesOf a) old)
 
 abbrev pub coversAsked : List ℕ → ℕ → List ℕ → ℕ → ℕ → Asked
 coversAsked c n b m old = askedOf (coversTold c n b m) old

@@ -359,12 +359,12 @@ module _ (es : List Edge) {ts xs : List ℕ} where
 
   module _ (R : Tables′ → ℕ → Tables′ → Type 0) (r : ℕ) (hs ns cs us hs′ ns′ ts′ xs′ cs′ us′ : List ℕ) {es′ : List Edge} where
     pub told-of : Unpacked es ts xs → length ts′ ≡ E.room → length xs′ ≡ E.room → es′ ≡ E.packed ts′ xs′ es → Told R (length es) (tables hs ns ts xs cs us) r (tables hs′ ns′ ts′ xs′ cs′ us′)
-        → ((t : Tables′) → E.room < edgeRoom t → R t 1 t) → R (E.lent hs ns es cs us) r (E.lent hs′ ns′ es′ cs′ us′)
+        → ((t : Tables′) → E.room < edgeRoom t → R t (number not-valid) t) → R (E.lent hs ns es cs us) r (E.lent hs′ ns′ es′ cs′ us′)
     told-of u lt lx p c refuse = told-lent E.room E.blank (blank-long E.room) es R refuse r hs ns cs us hs′ ns′ ts′ xs′ cs′ us′ es′ lt lx p (taken (λ (ls ls′ : List ℕ). Told R (length es) (tables hs ns ls ls′ cs us) r (tables hs′ ns′ ts′ xs′ cs′ us′)) u c)
 
     pub beside-of : {refused : Type 0} → Unpacked es ts xs → length ts′ ≡ E.room → length xs′ ≡ E.room → es′ ≡ E.packed ts′ xs′ es
         → Told R (length es) (tables hs ns ts xs cs us) r (tables hs′ ns′ ts′ xs′ cs′ us′) × (Beyond (length es) (tables hs ns ts xs cs us) → refused)
-        → ((t : Tables′) → E.room < edgeRoom t → refused → R t 1 t) → R (E.lent hs ns es cs us) r (E.lent hs′ ns′ es′ cs′ us′)
+        → ((t : Tables′) → E.room < edgeRoom t → refused → R t (number not-valid) t) → R (E.lent hs ns es cs us) r (E.lent hs′ ns′ es′ cs′ us′)
     beside-of {refused} u lt lx p c refuse = told-beside E.room E.blank (blank-long E.room) es R refused refuse r hs ns cs us hs′ ns′ ts′ xs′ cs′ us′ es′ lt lx p
         (taken (λ (ls ls′ : List ℕ). Told R (length es) (tables hs ns ls ls′ cs us) r (tables hs′ ns′ ts′ xs′ cs′ us′) × (Beyond (length es) (tables hs ns ls ls′ cs us) → refused)) u c)
 

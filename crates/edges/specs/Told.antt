@@ -9,6 +9,7 @@ use native.Mathlib.Omega.{arith}
 use native.Mathlib.Decide.{decLt}
 use lib.ListN.{length, take, drop, drop-of-length-le}
 use lib.Seq.{take-all}
+use Rattle.paper.specs.Numbers.{number, not-valid}
 use Rattle.tables.specs.Tables.{Tables, tables, edgeRoom}
 use Rattle.tables.specs.Valid.{Lengths, Valid}
 use Rattle.edges.specs.Edges.{targetsOf, nextsOf, lent, onto, common, takenTargets, takenNexts, packed}
@@ -29,7 +30,7 @@ pub record Told (R : Tables → ℕ → Tables → Type 0) (e : ℕ) (t : Tables
   pub within : e ≤ length (t .targets) → e ≤ length (t .nexts) → R (cut e t) r (cut e t′)
   pub rest-targets : drop e (t′ .targets) ≡ drop e (t .targets)
   pub rest-nexts : drop e (t′ .nexts) ≡ drop e (t .nexts)
-  pub beyond : (length (t .targets) < e) ⊎ (length (t .nexts) < e) → (r ≡ 1) × (t′ ≡ t)
+  pub beyond : (length (t .targets) < e) ⊎ (length (t .nexts) < e) → (r ≡ number not-valid) × (t′ ≡ t)
 
 -- the same of a question, which changes no table: Q holds of the first e edges, and where a table has no room for them the refusal holds
 pub record Asked (Q : Tables → Type 0) (refused : Type 0) (e : ℕ) (t : Tables) : Type 0 where
@@ -52,7 +53,7 @@ drop-left (x ∷ l) k = drop-left l k
 -- where P holds of the tables the number is n of them and they become new of them; else the number is 1 and nothing changes
 pub record Checked (P : Tables → Type 0) (n : Tables → ℕ) (new : Tables → Tables) (t : Tables) (r : ℕ) (t′ : Tables) : Type 0 where
   pub met : P t → (r ≡ n t) × (t′ ≡ new t)
-  pub unmet : (P t → ⊥) → (r ≡ 1) × (t′ ≡ t)
+  pub unmet : (P t → ⊥) → (r ≡ number not-valid) × (t′ ≡ t)
 
 -- the same of a question: where P holds of the tables so does Q, and else the refusal holds
 pub record Answered (P Q : Tables → Type 0) (refused : Type 0) (t : Tables) : Type 0 where
@@ -74,7 +75,7 @@ module _ (P : Tables → Type 0) (bounding : Bounding P) (t : Tables) (l : 16384
   too-many v = let b = bounding t v in omega arith
 
   -- on too many edges the number 1 is right
-  pub checked-refused : (n : Tables → ℕ) (new : Tables → Tables) (r : ℕ) (t′ : Tables) → (r ≡ 1) × (t′ ≡ t) → Checked P n new t r t′
+  pub checked-refused : (n : Tables → ℕ) (new : Tables → Tables) (r : ℕ) (t′ : Tables) → (r ≡ number not-valid) × (t′ ≡ t) → Checked P n new t r t′
   checked-refused n new r t′ o = record { met = λ v. absurd (too-many v); unmet = λ _. o }
 
   pub answered-refused : (Q : Tables → Type 0) (refused : Type 0) → refused → Answered P Q refused t
@@ -83,7 +84,7 @@ module _ (P : Tables → Type 0) (bounding : Bounding P) (t : Tables) (l : 16384
 -- ---- how a core that is told of e edges keeps its promise: it hands the first e of each table on
 
 module _ (R : Tables → ℕ → Tables → Type 0) (e : ℕ) where
-  pub told-none : (t : Tables) → (length (t .targets) < e) ⊎ (length (t .nexts) < e) → Told R e t 1 t
+  pub told-none : (t : Tables) → (length (t .targets) < e) ⊎ (length (t .nexts) < e) → Told R e t (number not-valid) t
   told-none t o = record {
     within = λ a b. absurd (⊎-elim (λ (l : length (t .targets) < e). beyond-all a l) (λ (l : length (t .nexts) < e). beyond-all b l) o);
     rest-targets = refl;
@@ -174,7 +175,7 @@ module _ (room : ℕ) (blank : List ℕ) (long : length blank ≡ room) (es : Li
           refl refl
 
   -- an operation that changes the tables
-  pub told-lent : (R : Tables → ℕ → Tables → Type 0) → ((t : Tables) → room < edgeRoom t → R t 1 t)
+  pub told-lent : (R : Tables → ℕ → Tables → Type 0) → ((t : Tables) → room < edgeRoom t → R t (number not-valid) t)
       → (r : ℕ) (hs ns cs us hs′ ns′ ts′ xs′ cs′ us′ : List ℕ) (es′ : List Edge) → length ts′ ≡ room → length xs′ ≡ room → es′ ≡ packed ts′ xs′ es
       → Told R (length es) (tables hs ns ts xs cs us) r (tables hs′ ns′ ts′ xs′ cs′ us′) → R (lent hs ns es cs us) r (lent hs′ ns′ es′ cs′ us′)
   told-lent R refuse r hs ns cs us hs′ ns′ ts′ xs′ cs′ us′ es′ lt lx p c = elim (decLt room (length es)) [
@@ -182,7 +183,7 @@ module _ (room : ℕ) (blank : List ℕ) (long : length blank ≡ room) (es : Li
         let o = c .beyond (inl (let g = targets-room in omega arith)) in
         let same : es′ ≡ es = p ∙ ap₂ (λ (a b : List ℕ). packed a b es) (ap (λ (t : Tables). t .targets) (o .1)) (ap (λ (t : Tables). t .nexts) (o .1)) ∙ pack-after-unpack es blank blank in
         let q : lent hs ns es cs us ≡ lent hs′ ns′ es′ cs′ us′ = sym (same-tables (ap (λ (t : Tables). t .hashes) (o .1)) (ap (λ (t : Tables). t .nodes) (o .1)) (ap targetsOf same) (ap nextsOf same) (ap (λ (t : Tables). t .clocks) (o .1)) (ap (λ (t : Tables). t .counts) (o .1))) in
-        subst (λ (n : ℕ). R (lent hs ns es cs us) n (lent hs′ ns′ es′ cs′ us′)) (sym (o .0)) (subst (λ (t : Tables). R (lent hs ns es cs us) 1 t) q (refuse (lent hs ns es cs us) (let g = targets-long es in omega arith)))
+        subst (λ (n : ℕ). R (lent hs ns es cs us) n (lent hs′ ns′ es′ cs′ us′)) (sym (o .0)) (subst (λ (t : Tables). R (lent hs ns es cs us) (number not-valid) t) q (refuse (lent hs ns es cs us) (let g = targets-long es in omega arith)))
         )
     | no l ↦ (
         let f : length es ≤ room = omega arith in
@@ -193,7 +194,7 @@ module _ (room : ℕ) (blank : List ℕ) (long : length blank ≡ room) (es : Li
   ]
 
   -- one that changes other lent memory too: its core says beside what becomes of that where there is no room for the edges
-  pub told-beside : (R : Tables → ℕ → Tables → Type 0) (refused : Type 0) → ((t : Tables) → room < edgeRoom t → refused → R t 1 t)
+  pub told-beside : (R : Tables → ℕ → Tables → Type 0) (refused : Type 0) → ((t : Tables) → room < edgeRoom t → refused → R t (number not-valid) t)
       → (r : ℕ) (hs ns cs us hs′ ns′ ts′ xs′ cs′ us′ : List ℕ) (es′ : List Edge) → length ts′ ≡ room → length xs′ ≡ room → es′ ≡ packed ts′ xs′ es
       → Told R (length es) (tables hs ns ts xs cs us) r (tables hs′ ns′ ts′ xs′ cs′ us′) × (Beyond (length es) (tables hs ns ts xs cs us) → refused) → R (lent hs ns es cs us) r (lent hs′ ns′ es′ cs′ us′)
   told-beside R refused refuse r hs ns cs us hs′ ns′ ts′ xs′ cs′ us′ es′ lt lx p c =

@@ -3,6 +3,7 @@
 use mathlib.Core.Path.{_≡_}
 use mathlib.Core.List.{List}
 use Prim.Native.Nat.{ℕ, _<_}
+use Rattle.paper.specs.Numbers.{number, not-valid}
 use Rattle.tables.specs.Tables.{Tables, tables, edgeRoom}
 use Rattle.tables.specs.Valid.{Valid}
 use Rattle.edges.specs.Told.{Checked, valid-bounding, checked-refused}
@@ -26,7 +27,7 @@ insertTables p t = ifDone (inserting t p) (inserted t p) t
 abbrev pub Inserted : ℕ → ℕ → List ℕ → List ℕ → List ℕ → Tables → Type 0
 Inserted p r ns cs us t = Checked Valid (insertNumber p) (insertTables p) t r (renewed t ns cs us)
 
-pub inserted-refused : (p r : ℕ) (ns cs us : List ℕ) (t : Tables) → 16384 < edgeRoom t → (r ≡ 1) × (ns ≡ t .nodes) × (cs ≡ t .clocks) × (us ≡ t .counts) → Inserted p r ns cs us t
+pub inserted-refused : (p r : ℕ) (ns cs us : List ℕ) (t : Tables) → 16384 < edgeRoom t → (r ≡ number not-valid) × (ns ≡ t .nodes) × (cs ≡ t .clocks) × (us ≡ t .counts) → Inserted p r ns cs us t
 inserted-refused p r ns cs us t l o = checked-refused Valid valid-bounding t l (insertNumber p) (insertTables p) r (renewed t ns cs us) (o .0, same t (o .1) (o .2) (o .3))
 
 -- the one at place p away: the number, and the tables afterwards
@@ -40,5 +41,5 @@ removeTables p t = ifDone (removing t p) (removed t p) t
 abbrev pub Removed : ℕ → ℕ → List ℕ → List ℕ → List ℕ → Tables → Type 0
 Removed p r ns cs us t = Checked Valid (removeNumber p) (removeTables p) t r (renewed t ns cs us)
 
-pub removed-refused : (p r : ℕ) (ns cs us : List ℕ) (t : Tables) → 16384 < edgeRoom t → (r ≡ 1) × (ns ≡ t .nodes) × (cs ≡ t .clocks) × (us ≡ t .counts) → Removed p r ns cs us t
+pub removed-refused : (p r : ℕ) (ns cs us : List ℕ) (t : Tables) → 16384 < edgeRoom t → (r ≡ number not-valid) × (ns ≡ t .nodes) × (cs ≡ t .clocks) × (us ≡ t .counts) → Removed p r ns cs us t
 removed-refused p r ns cs us t l o = checked-refused Valid valid-bounding t l (removeNumber p) (removeTables p) r (renewed t ns cs us) (o .0, same t (o .1) (o .2) (o .3))

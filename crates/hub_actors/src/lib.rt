@@ -2,6 +2,7 @@
 // An operation comes in three: `X_checked` checks the tables and calls the core; `X_told` does so with the first e edges of two larger tables;
 // `cg_X` unpacks the records into two such tables and calls `X_told`. No edge changes, so nothing is packed again.
 ghost use mathlib.Core.Path.{_≡_};
+ghost use Rattle.paper.specs.Numbers.{number, not-valid};
 ghost use Rattle.tables.specs.Tables.{tables};
 ghost use Rattle.tables.specs.Valid.{Valid};
 ghost use mathlib.Core.Bool.{true};
@@ -40,7 +41,7 @@ fn insert_told(
     counts: &mut [u32],
     place: u64,
 ) -> u32
-    ensures { λ r. ⌜ Asked (Inserted place r (now (nodes .exit)) (now (clocks .exit)) (now (counts .exit))) ((r ≡ 1) × (now (nodes .exit) ≡ now (nodes .entry)) × (now (clocks .exit) ≡ now (clocks .entry)) × (now (counts .exit) ≡ now (counts .entry))) e (tables (now (hashes .entry)) (now (nodes .entry)) (now (targets .entry)) (now (nexts .entry)) (now (clocks .entry)) (now (counts .entry))) ⌝ }
+    ensures { λ r. ⌜ Asked (Inserted place r (now (nodes .exit)) (now (clocks .exit)) (now (counts .exit))) ((r ≡ number not-valid) × (now (nodes .exit) ≡ now (nodes .entry)) × (now (clocks .exit) ≡ now (clocks .entry)) × (now (counts .exit) ≡ now (counts .entry))) e (tables (now (hashes .entry)) (now (nodes .entry)) (now (targets .entry)) (now (nexts .entry)) (now (clocks .entry)) (now (counts .entry))) ⌝ }
 {
     if targets.len() < e {
         return 1;
@@ -106,7 +107,7 @@ fn remove_told(
     counts: &mut [u32],
     place: u64,
 ) -> u32
-    ensures { λ r. ⌜ Asked (Removed place r (now (nodes .exit)) (now (clocks .exit)) (now (counts .exit))) ((r ≡ 1) × (now (nodes .exit) ≡ now (nodes .entry)) × (now (clocks .exit) ≡ now (clocks .entry)) × (now (counts .exit) ≡ now (counts .entry))) e (tables (now (hashes .entry)) (now (nodes .entry)) (now (targets .entry)) (now (nexts .entry)) (now (clocks .entry)) (now (counts .entry))) ⌝ }
+    ensures { λ r. ⌜ Asked (Removed place r (now (nodes .exit)) (now (clocks .exit)) (now (counts .exit))) ((r ≡ number not-valid) × (now (nodes .exit) ≡ now (nodes .entry)) × (now (clocks .exit) ≡ now (clocks .entry)) × (now (counts .exit) ≡ now (counts .entry))) e (tables (now (hashes .entry)) (now (nodes .entry)) (now (targets .entry)) (now (nexts .entry)) (now (clocks .entry)) (now (counts .entry))) ⌝ }
 {
     if targets.len() < e {
         return 1;

@@ -3,6 +3,7 @@
 use mathlib.Core.Path.{_≡_, refl}
 use mathlib.Core.List.{List}
 use Prim.Native.Nat.{ℕ, _<_}
+use Rattle.paper.specs.Numbers.{number, not-valid}
 use Rattle.paper.specs.Adding.{Change}
 use Rattle.tables.specs.Tables.{Tables, edgeRoom}
 use Rattle.tables.specs.Valid.{Valid}
@@ -38,8 +39,8 @@ pub record Added (x : Change) (l l′ : List ℕ) (t : Tables) (r : ℕ) (t′ :
   pub tables : Checked Valid (addNumber x) (addTables x) t r t′
   pub place : Answered Valid (λ (u : Tables). l′ ≡ unknownIn (judged u x) l) (l′ ≡ l) t
 
-pub added-refused : (x : Change) (l l′ : List ℕ) (t : Tables) → 16384 < edgeRoom t → l′ ≡ l → Added x l l′ t 1 t
+pub added-refused : (x : Change) (l l′ : List ℕ) (t : Tables) → 16384 < edgeRoom t → l′ ≡ l → Added x l l′ t (number not-valid) t
 added-refused x l l′ t many same = record {
-  tables = checked-refused Valid valid-bounding t many (addNumber x) (addTables x) 1 t (refl, refl);
+  tables = checked-refused Valid valid-bounding t many (addNumber x) (addTables x) (number not-valid) t (refl, refl);
   place = answered-refused Valid valid-bounding t many (λ (u : Tables). l′ ≡ unknownIn (judged u x) l) (l′ ≡ l) same;
 }

@@ -4,7 +4,7 @@ use mathlib.Core.Path.{_≡_}
 use mathlib.Core.Bool.{Bool, cond}
 use mathlib.Core.List.{List, []}
 use Prim.Native.Nat.{ℕ}
-use Rattle.paper.specs.Numbers.{Outcome, number, done, malformed, not-found, no-owner, short-buffer}
+use Rattle.paper.specs.Numbers.{Outcome, number, done, not-valid, malformed, not-found, no-owner, short-buffer}
 use Rattle.tables.specs.Tables.{Tables}
 use Rattle.tables.specs.Valid.{Valid}
 use Rattle.lent_place.specs.Places.{toldIn}
@@ -62,7 +62,7 @@ pub record Says {L : Type 0} (of : L → Reply) (answer : Tables → L) (buffer 
 
 -- the number 1, and nothing is changed
 abbrev pub Untouched : List ℕ → List ℕ → ℕ → List ℕ → List ℕ → Type 0
-Untouched out told r out′ told′ = (r ≡ 1) × (out′ ≡ out) × (told′ ≡ told)
+Untouched out told r out′ told′ = (r ≡ number not-valid) × (out′ ≡ out) × (told′ ≡ told)
 
 -- a question with an answer buffer: where the tables are valid what is said, and else 1 and nothing changes
 abbrev pub Asks : {L : Type 0} → (L → Reply) → (Tables → L) → (Tables → List ℕ) → List ℕ → List ℕ → ℕ → List ℕ → List ℕ → Tables → Type 0

@@ -6,6 +6,7 @@ use mathlib.Core.Logic.{_↔_}
 use mathlib.Core.List.{List}
 use Prim.Native.Nat.{ℕ, _<_}
 use Rattle.list_laws.specs.Iff.{failed}
+use Rattle.paper.specs.Numbers.{number, not-valid}
 use Rattle.tables.specs.Tables.{Tables, edgeRoom}
 use Rattle.tables.specs.Valid.{Valid}
 use Rattle.edges.specs.Told.{Answered, valid-bounding, answered-refused}
@@ -17,7 +18,7 @@ module _ {L : Type 0} (of : L → Reply) (answer : Tables → L) (buffer : Table
   asks-refused r out′ told′ l o = answered-refused Valid valid-bounding t l (Says of answer buffer told r out′ told′) (Untouched out told r out′ told′) o
 
   -- the check failed
-  pub asks-invalid : {b : Bool} → (b ≡ true) ↔ Valid t → b ≡ false → Asks of answer buffer out told 1 out told t
+  pub asks-invalid : {b : Bool} → (b ≡ true) ↔ Valid t → b ≡ false → Asks of answer buffer out told (number not-valid) out told t
   asks-invalid i e = record { met = λ v. absurd (failed i e v); unmet = λ _. (refl, refl, refl) }
 
   -- the check passed, the core answered a, and its number and what it tells were given

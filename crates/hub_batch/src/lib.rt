@@ -1,10 +1,8 @@
 // Opening a queue or a batch, and pushing to a batch, from C. Each function answers the paper's number of what the operation answers.
 ghost use mathlib.Core.Path.{_≡_};
-ghost use Rattle.waiting.specs.Valid.{Laid, Valid, OpenedTo, numberOf as numberOfOpened};
-ghost use Rattle.waiting.specs.declared.Opened.the-variants.{Done as OpenedDone, NotValid as OpenedNot};
-ghost use Rattle.batch.specs.Push.{judged, PushedTo, numberOf as numberOfPushed};
-ghost use Rattle.batch.specs.declared.Pushed.the-variants.{NotValid as PushedNot};
-ghost use Rattle.lent_place.specs.Places.{Numbered};
+ghost use Rattle.waiting.specs.Valid.{store, numberOf as numberOfOpened};
+ghost use Rattle.batch.specs.Push.{numberOf as numberOfPushed};
+ghost use Rattle.hub_batch.specs.Operations.{QueueOpened, BatchPushed};
 use batch::Pushed;
 use waiting::Opened;
 
@@ -39,7 +37,7 @@ pub extern "C" fn cg_queue_open(
     deps: &[u8],
     count: &mut [u32],
 ) -> u32
-    ensures { λ r. ⌜ Numbered numberOfOpened (Laid (now (hashes .entry)) (now (numbers .entry)) (now (deps .entry)) (now (count .entry))) OpenedDone OpenedNot (λ a. OpenedTo a (now (count .entry)) (now (count .exit))) r ⌝ }
+    ensures { λ r. ⌜ QueueOpened (store (now (hashes .entry)) (now (numbers .entry)) (now (deps .entry)) (now (count .entry))) r (now (count .exit)) ⌝ }
 {
     opened(waiting::open_empty(hashes, numbers, deps, count))
 }
@@ -58,8 +56,7 @@ pub extern "C" fn cg_batch_push(
     ops: u64,
     needs: &[u8],
 ) -> u32
-    ensures { λ r. ⌜ Numbered numberOfPushed (Valid (now (hashes .entry)) (now (numbers .entry)) (now (deps .entry)) (now (count .entry))) (judged (now (hashes .entry)) (now (numbers .entry)) (now (count .entry)) (now (hash .entry)) key seq (now (needs .entry))) PushedNot
-        (λ a. PushedTo a (now (hashes .entry)) (now (numbers .entry)) (now (deps .entry)) (now (count .entry)) (now (hash .entry)) key seq top ops (now (needs .entry)) (now (hashes .exit)) (now (numbers .exit)) (now (deps .exit)) (now (count .exit))) r ⌝ }
+    ensures { λ r. ⌜ BatchPushed (store (now (hashes .entry)) (now (numbers .entry)) (now (deps .entry)) (now (count .entry))) (now (hash .entry)) key seq top ops (now (needs .entry)) r (store (now (hashes .exit)) (now (numbers .exit)) (now (deps .exit)) (now (count .exit))) ⌝ }
 {
     pushed(batch::push(
         hashes,

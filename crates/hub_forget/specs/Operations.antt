@@ -3,7 +3,7 @@
 use mathlib.Core.Path.{_≡_, ap}
 use mathlib.Core.List.{List}
 use Prim.Native.Nat.{ℕ, _<_}
-use Rattle.paper.specs.Numbers.{number, done}
+use Rattle.paper.specs.Numbers.{number, done, not-valid}
 use Rattle.tables.specs.Tables.{Tables, tables, edgeRoom}
 use Rattle.tables.specs.Valid.{Valid}
 use Rattle.cache.specs.Cache.{forgotten}
@@ -17,5 +17,5 @@ clocked t cs = tables (t .hashes) (t .nodes) (t .targets) (t .nexts) cs (t .coun
 abbrev pub Forgot : ℕ → List ℕ → Tables → Type 0
 Forgot r cs t = Checked Valid (λ (u : Tables). number done) (λ (u : Tables). clocked u (forgotten u)) t r (clocked t cs)
 
-pub forgot-refused : (r : ℕ) (cs : List ℕ) (t : Tables) → 16384 < edgeRoom t → (r ≡ 1) × (cs ≡ t .clocks) → Forgot r cs t
+pub forgot-refused : (r : ℕ) (cs : List ℕ) (t : Tables) → 16384 < edgeRoom t → (r ≡ number not-valid) × (cs ≡ t .clocks) → Forgot r cs t
 forgot-refused r cs t l o = checked-refused Valid valid-bounding t l (λ (u : Tables). number done) (λ (u : Tables). clocked u (forgotten u)) r (clocked t cs) (o .0, ap (clocked t) (o .1))

@@ -2,6 +2,7 @@
 // `forget_checked` checks the tables and calls the core; `forget_told` does so with the first e edges of two larger tables;
 // `cg_forget` unpacks the records into two such tables and calls `forget_told`. No edge changes.
 ghost use mathlib.Core.Path.{_≡_};
+ghost use Rattle.paper.specs.Numbers.{number, not-valid};
 ghost use Rattle.tables.specs.Tables.{tables};
 ghost use Rattle.edges.specs.Edges.{lent};
 ghost use Rattle.edges.specs.Told.{Asked};
@@ -34,7 +35,7 @@ fn forget_told(
     clocks: &mut [u32],
     counts: &[u32],
 ) -> u32
-    ensures { λ r. ⌜ Asked (Forgot r (now (clocks .exit))) ((r ≡ 1) × (now (clocks .exit) ≡ now (clocks .entry))) e (tables (now (hashes .entry)) (now (nodes .entry)) (now (targets .entry)) (now (nexts .entry)) (now (clocks .entry)) (now (counts .entry))) ⌝ }
+    ensures { λ r. ⌜ Asked (Forgot r (now (clocks .exit))) ((r ≡ number not-valid) × (now (clocks .exit) ≡ now (clocks .entry))) e (tables (now (hashes .entry)) (now (nodes .entry)) (now (targets .entry)) (now (nexts .entry)) (now (clocks .entry)) (now (counts .entry))) ⌝ }
 {
     if targets.len() < e {
         return 1;

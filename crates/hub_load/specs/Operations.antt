@@ -2,7 +2,7 @@
 -- Assumes nothing.
 use mathlib.Core.Path.{_≡_, refl}
 use Prim.Native.Nat.{ℕ, _<_}
-use Rattle.paper.specs.Numbers.{number}
+use Rattle.paper.specs.Numbers.{number, not-valid}
 use Rattle.paper.specs.Loading.{Columns}
 use Rattle.tables.specs.Tables.{Tables, edgeRoom}
 use Rattle.tables.specs.Valid.{Lengths}
@@ -21,5 +21,5 @@ loadTables c t = loaded t c
 abbrev pub Loaded : Columns → Tables → ℕ → Tables → Type 0
 Loaded c t r t′ = Checked Lengths (loadNumber c) (loadTables c) t r t′
 
-pub loaded-refused : (c : Columns) (t : Tables) → 16384 < edgeRoom t → Loaded c t 1 t
-loaded-refused c t l = checked-refused Lengths lengths-bounding t l (loadNumber c) (loadTables c) 1 t (refl, refl)
+pub loaded-refused : (c : Columns) (t : Tables) → 16384 < edgeRoom t → Loaded c t (number not-valid) t
+loaded-refused c t l = checked-refused Lengths lengths-bounding t l (loadNumber c) (loadTables c) (number not-valid) t (refl, refl)

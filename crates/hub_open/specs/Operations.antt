@@ -3,6 +3,7 @@
 use mathlib.Core.Path.{_≡_, refl, ap, _∙_}
 use mathlib.Core.List.{List}
 use Prim.Native.Nat.{ℕ, _<_}
+use Rattle.paper.specs.Numbers.{number, not-valid}
 use Rattle.tables.specs.Tables.{Tables, tables, edgeRoom}
 use Rattle.tables.specs.Valid.{Lengths}
 use Rattle.edges.specs.Told.{Checked, lengths-bounding, checked-refused}
@@ -23,5 +24,5 @@ openTables a t = ifDone (opening t a) (opened t a) t
 abbrev pub Opened : ℕ → ℕ → List ℕ → Tables → Type 0
 Opened a r us t = Checked Lengths (openNumber a) (openTables a) t r (counted t us)
 
-pub opened-refused : (a r : ℕ) (us : List ℕ) (t : Tables) → 16384 < edgeRoom t → (r ≡ 1) × (us ≡ t .counts) → Opened a r us t
+pub opened-refused : (a r : ℕ) (us : List ℕ) (t : Tables) → 16384 < edgeRoom t → (r ≡ number not-valid) × (us ≡ t .counts) → Opened a r us t
 opened-refused a r us t l o = checked-refused Lengths lengths-bounding t l (openNumber a) (openTables a) r (counted t us) (o .0, ap (counted t) (o .1))

@@ -2,6 +2,7 @@
 // An operation comes in three: `X_checked` checks the tables and calls the core; `X_told` does so with the first e edges of two larger tables;
 // `cg_X`, the C face, unpacks the records into two such tables, calls `X_told`, and packs them again where they change.
 ghost use mathlib.Core.Path.{_≡_};
+ghost use Rattle.paper.specs.Numbers.{number, not-valid};
 ghost use Rattle.tables.specs.Tables.{tables};
 ghost use Rattle.edges.specs.Edges.{lent};
 ghost use Rattle.edges.specs.Told.{Asked};
@@ -37,7 +38,7 @@ fn open_told(
     counts: &mut [u32],
     actors: u64,
 ) -> u32
-    ensures { λ r. ⌜ Asked (Opened actors r (now (counts .exit))) ((r ≡ 1) × (now (counts .exit) ≡ now (counts .entry))) e (tables (now (hashes .entry)) (now (nodes .entry)) (now (targets .entry)) (now (nexts .entry)) (now (clocks .entry)) (now (counts .entry))) ⌝ }
+    ensures { λ r. ⌜ Asked (Opened actors r (now (counts .exit))) ((r ≡ number not-valid) × (now (counts .exit) ≡ now (counts .entry))) e (tables (now (hashes .entry)) (now (nodes .entry)) (now (targets .entry)) (now (nexts .entry)) (now (clocks .entry)) (now (counts .entry))) ⌝ }
 {
     if targets.len() < e {
         return 1;

@@ -1,19 +1,12 @@
 // The queue from C: taking a batch over, the questions, and dropping an actor's branch. Each function answers the paper's number of what the operation answers.
 // A yes or no, and how many records are handed out, are told in a lent place, which every number but 0 leaves as it was.
 ghost use mathlib.Core.Path.{_≡_};
-ghost use lib.Dec.{eqb};
-ghost use Rattle.paper.specs.Queue.{has-actor-seq};
-ghost use Rattle.ready.specs.Tables.{queueOf};
-ghost use Rattle.waiting.specs.Valid.{Valid, waiting};
-ghost use Rattle.queue.specs.Hand.{handedAs, HandedTo, numberOf as numberOfHanded};
-ghost use Rattle.queue.specs.declared.Handed.the-variants.{NotValid as HandedNot};
-ghost use Rattle.queue.specs.Asked.{asked as askedAs, askedHash, listedAs, ListedTo, numberOf as numberOfAsked, numberOfList};
-ghost use Rattle.queue.specs.declared.Asked.the-variants.{NotValid as AskedNot};
-ghost use Rattle.queue.specs.declared.Listed.the-variants.{NotValid as ListedNot};
-ghost use Rattle.branch.specs.Branch.{RemovedTo, numberOf as numberOfRemoved};
-ghost use Rattle.branch.specs.declared.Removed.the-variants.{Done as RemovedDone, NotValid as RemovedNot};
-ghost use Rattle.lent_place.specs.Places.{Numbered};
+ghost use Rattle.waiting.specs.Valid.{store};
+ghost use Rattle.queue.specs.Hand.{numberOf as numberOfHanded};
+ghost use Rattle.queue.specs.Asked.{numberOf as numberOfAsked, numberOfList};
+ghost use Rattle.branch.specs.Branch.{numberOf as numberOfRemoved};
 ghost use Rattle.hub_queue.specs.Told.{yesIn, countIn};
+ghost use Rattle.hub_queue.specs.Operations.{HandedOver, BranchRemoved, QueueIsEmpty, QueueHasHash, QueueHasActorSeq, QueueGiven};
 use branch::Removed;
 use lent_place::tell;
 use queue::Asked;
@@ -96,8 +89,7 @@ pub extern "C" fn cg_hand_over(
     bdeps: &[u8],
     bcount: &mut [u32],
 ) -> u32
-    ensures { λ r. ⌜ Numbered numberOfHanded (Valid (now (hashes .entry)) (now (numbers .entry)) (now (deps .entry)) (now (count .entry)) × Valid (now (bhashes .entry)) (now (bnumbers .entry)) (now (bdeps .entry)) (now (bcount .entry))) (handedAs (now (hashes .entry)) (now (numbers .entry)) (now (count .entry)) (now (bhashes .entry)) (now (bnumbers .entry)) (now (bcount .entry))) HandedNot
-        (λ a. HandedTo a (now (hashes .entry)) (now (numbers .entry)) (now (deps .entry)) (now (count .entry)) (now (bhashes .entry)) (now (bnumbers .entry)) (now (bdeps .entry)) (now (bcount .entry)) (now (hashes .exit)) (now (numbers .exit)) (now (deps .exit)) (now (count .exit)) (now (bcount .exit))) r ⌝ }
+    ensures { λ r. ⌜ HandedOver (store (now (hashes .entry)) (now (numbers .entry)) (now (deps .entry)) (now (count .entry))) (store (now (bhashes .entry)) (now (bnumbers .entry)) (now (bdeps .entry)) (now (bcount .entry))) r (store (now (hashes .exit)) (now (numbers .exit)) (now (deps .exit)) (now (count .exit))) (now (bcount .exit)) ⌝ }
 {
     handed(queue::hand_over(
         hashes,
@@ -121,8 +113,7 @@ pub extern "C" fn cg_remove_actor_branch_from(
     key: u64,
     from: u64,
 ) -> u32
-    ensures { λ r. ⌜ Numbered numberOfRemoved (Valid (now (hashes .entry)) (now (numbers .entry)) (now (deps .entry)) (now (count .entry))) RemovedDone RemovedNot
-        (λ a. RemovedTo a (now (hashes .entry)) (now (numbers .entry)) (now (deps .entry)) (now (count .entry)) key from (now (hashes .exit)) (now (numbers .exit)) (now (deps .exit)) (now (count .exit))) r ⌝ }
+    ensures { λ r. ⌜ BranchRemoved (store (now (hashes .entry)) (now (numbers .entry)) (now (deps .entry)) (now (count .entry))) key from r (store (now (hashes .exit)) (now (numbers .exit)) (now (deps .exit)) (now (count .exit))) ⌝ }
 {
     removed(branch::remove_actor_branch_from(hashes, numbers, deps, count, key, from))
 }
@@ -136,7 +127,7 @@ pub extern "C" fn cg_queue_is_empty(
     count: &[u32],
     told: &mut [u64],
 ) -> u32
-    ensures { λ r. ⌜ Numbered numberOfAsked (Valid (now (hashes .entry)) (now (numbers .entry)) (now (deps .entry)) (now (count .entry))) (askedAs (eqb (waiting (now (count .entry))) 0)) AskedNot (λ a. now (told .exit) ≡ yesIn a (now (told .entry))) r ⌝ }
+    ensures { λ r. ⌜ QueueIsEmpty (store (now (hashes .entry)) (now (numbers .entry)) (now (deps .entry)) (now (count .entry))) (now (told .entry)) r (now (told .exit)) ⌝ }
 {
     let a = queue::is_empty(hashes, numbers, deps, count);
     tell_yes(a, told);
@@ -153,7 +144,7 @@ pub extern "C" fn cg_queue_has_hash(
     hash: &[u8],
     told: &mut [u64],
 ) -> u32
-    ensures { λ r. ⌜ Numbered numberOfAsked (Valid (now (hashes .entry)) (now (numbers .entry)) (now (deps .entry)) (now (count .entry))) (askedHash (queueOf (now (hashes .entry)) (now (numbers .entry)) (now (deps .entry)) (waiting (now (count .entry)))) (now (hash .entry))) AskedNot (λ a. now (told .exit) ≡ yesIn a (now (told .entry))) r ⌝ }
+    ensures { λ r. ⌜ QueueHasHash (store (now (hashes .entry)) (now (numbers .entry)) (now (deps .entry)) (now (count .entry))) (now (hash .entry)) (now (told .entry)) r (now (told .exit)) ⌝ }
 {
     let a = queue::has_hash(hashes, numbers, deps, count, hash);
     tell_yes(a, told);
@@ -171,7 +162,7 @@ pub extern "C" fn cg_queue_has_actor_seq(
     seq: u64,
     told: &mut [u64],
 ) -> u32
-    ensures { λ r. ⌜ Numbered numberOfAsked (Valid (now (hashes .entry)) (now (numbers .entry)) (now (deps .entry)) (now (count .entry))) (askedAs (has-actor-seq (queueOf (now (hashes .entry)) (now (numbers .entry)) (now (deps .entry)) (waiting (now (count .entry)))) key seq)) AskedNot (λ a. now (told .exit) ≡ yesIn a (now (told .entry))) r ⌝ }
+    ensures { λ r. ⌜ QueueHasActorSeq (store (now (hashes .entry)) (now (numbers .entry)) (now (deps .entry)) (now (count .entry))) key seq (now (told .entry)) r (now (told .exit)) ⌝ }
 {
     let a = queue::has_actor_seq(hashes, numbers, deps, count, key, seq);
     tell_yes(a, told);
@@ -190,8 +181,7 @@ pub extern "C" fn cg_queue_iter(
     tdeps: &mut [u8],
     told: &mut [u64],
 ) -> u32
-    ensures { λ r. ⌜ Numbered numberOfList (Valid (now (hashes .entry)) (now (numbers .entry)) (now (deps .entry)) (now (count .entry))) (listedAs (waiting (now (count .entry))) (now (thashes .entry)) (now (tnumbers .entry)) (now (tdeps .entry))) ListedNot
-        (λ a. ListedTo a (now (hashes .entry)) (now (numbers .entry)) (now (deps .entry)) (now (thashes .entry)) (now (tnumbers .entry)) (now (tdeps .entry)) (now (thashes .exit)) (now (tnumbers .exit)) (now (tdeps .exit)) × (now (told .exit) ≡ countIn a (now (told .entry)))) r ⌝ }
+    ensures { λ r. ⌜ QueueGiven (store (now (hashes .entry)) (now (numbers .entry)) (now (deps .entry)) (now (count .entry))) (now (thashes .entry)) (now (tnumbers .entry)) (now (tdeps .entry)) (now (told .entry)) r (now (thashes .exit)) (now (tnumbers .exit)) (now (tdeps .exit)) (now (told .exit)) ⌝ }
 {
     let a = queue::iter(hashes, numbers, deps, count, thashes, tnumbers, tdeps);
     tell_count(a, told);

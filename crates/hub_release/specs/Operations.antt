@@ -3,6 +3,7 @@
 use mathlib.Core.Path.{_≡_, refl, sym, subst}
 use mathlib.Core.List.{List}
 use Prim.Native.Nat.{ℕ, _<_}
+use Rattle.paper.specs.Numbers.{number, not-valid}
 use Rattle.tables.specs.Tables.{Tables, changes, edgeRoom}
 use Rattle.tables.specs.Valid.{Valid}
 use Rattle.edges.specs.Told.{valid-bounding}
@@ -59,10 +60,10 @@ left-same gs k m m′ e =
     subst (λ (x : Stock). Left gs k m x NotValid) (sym e) (record { queue = record { hashes = refl; numbers = refl; deps = refl; count = refl }; hashes = refl; numbers = refl; deps = refl }, refl)
 
 -- a graph that is not valid
-pub freed-not : (m m′ : Stock) (r : ℕ) (t : Tables) → (Valid t → ⊥) → (r ≡ 1) × (m′ ≡ m) → FreedBy m r m′ t
+pub freed-not : (m m′ : Stock) (r : ℕ) (t : Tables) → (Valid t → ⊥) → (r ≡ number not-valid) × (m′ ≡ m) → FreedBy m r m′ t
 freed-not m m′ r t bad o = record { met = λ h. absurd (bad (h .0)); unmet = λ _. (o .0, left-same (t .hashes) (changes t) m m′ (o .1)) }
 
-pub freed-refused : (m m′ : Stock) (r : ℕ) (t : Tables) → 16384 < edgeRoom t → (r ≡ 1) × (m′ ≡ m) → FreedBy m r m′ t
+pub freed-refused : (m m′ : Stock) (r : ℕ) (t : Tables) → 16384 < edgeRoom t → (r ≡ number not-valid) × (m′ ≡ m) → FreedBy m r m′ t
 freed-refused m m′ r t l o = freed-not m m′ r t (λ v. let b = valid-bounding t v in omega arith) o
 
 -- a graph that is valid has the hashes that it counts

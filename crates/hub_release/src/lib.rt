@@ -2,6 +2,7 @@
 // `release_checked` checks the graph and releases against its hashes; `release_told` does so with the first e edges of two larger tables;
 // `cg_release` unpacks the edge records into two such tables and calls `release_told`. No table of the graph changes.
 ghost use mathlib.Core.Path.{_≡_};
+ghost use Rattle.paper.specs.Numbers.{number, not-valid};
 ghost use Rattle.tables.specs.Tables.{tables};
 ghost use Rattle.edges.specs.Edges.{lent};
 ghost use Rattle.edges.specs.Told.{Asked};
@@ -116,7 +117,7 @@ fn release_told(
     tdeps: &mut [u8],
     told: &mut [u64],
 ) -> u32
-    ensures { λ r. ⌜ Asked (FreedBy (stock (now (qhashes .entry)) (now (qnumbers .entry)) (now (qdeps .entry)) (now (qcount .entry)) (now (thashes .entry)) (now (tnumbers .entry)) (now (tdeps .entry)) (now (told .entry))) r (stock (now (qhashes .exit)) (now (qnumbers .exit)) (now (qdeps .exit)) (now (qcount .exit)) (now (thashes .exit)) (now (tnumbers .exit)) (now (tdeps .exit)) (now (told .exit)))) ((r ≡ 1) × (stock (now (qhashes .exit)) (now (qnumbers .exit)) (now (qdeps .exit)) (now (qcount .exit)) (now (thashes .exit)) (now (tnumbers .exit)) (now (tdeps .exit)) (now (told .exit)) ≡ stock (now (qhashes .entry)) (now (qnumbers .entry)) (now (qdeps .entry)) (now (qcount .entry)) (now (thashes .entry)) (now (tnumbers .entry)) (now (tdeps .entry)) (now (told .entry)))) e (tables (now (hashes .entry)) (now (nodes .entry)) (now (targets .entry)) (now (nexts .entry)) (now (clocks .entry)) (now (counts .entry))) ⌝ }
+    ensures { λ r. ⌜ Asked (FreedBy (stock (now (qhashes .entry)) (now (qnumbers .entry)) (now (qdeps .entry)) (now (qcount .entry)) (now (thashes .entry)) (now (tnumbers .entry)) (now (tdeps .entry)) (now (told .entry))) r (stock (now (qhashes .exit)) (now (qnumbers .exit)) (now (qdeps .exit)) (now (qcount .exit)) (now (thashes .exit)) (now (tnumbers .exit)) (now (tdeps .exit)) (now (told .exit)))) ((r ≡ number not-valid) × (stock (now (qhashes .exit)) (now (qnumbers .exit)) (now (qdeps .exit)) (now (qcount .exit)) (now (thashes .exit)) (now (tnumbers .exit)) (now (tdeps .exit)) (now (told .exit)) ≡ stock (now (qhashes .entry)) (now (qnumbers .entry)) (now (qdeps .entry)) (now (qcount .entry)) (now (thashes .entry)) (now (tnumbers .entry)) (now (tdeps .entry)) (now (told .entry)))) e (tables (now (hashes .entry)) (now (nodes .entry)) (now (targets .entry)) (now (nexts .entry)) (now (clocks .entry)) (now (counts .entry))) ⌝ }
 {
     if targets.len() < e {
         return 1;

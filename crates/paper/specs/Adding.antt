@@ -48,7 +48,7 @@ outcome (plain o) = o
 outcome (unknown i) = unknown-dependency
 
 unfoldable pub accepts : Verdict → Bool
-accepts v = eqb (number (outcome v)) 0
+accepts v = eqb (number (outcome v)) (number done)
 
 -- numbers 2 to 10 in this order, each where its condition holds and none before does
 unfoldable pub judged : Hub → Change → Verdict

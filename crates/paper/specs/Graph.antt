@@ -1,5 +1,6 @@
 -- The paper's words: the graph of changes as plain functions of a node's number, histories, sequence clocks, op clocks, missing lists, owners, heads,
--- and what chained means. A list of nodes may name numbers that no node has; they count as unknown. Nothing here speaks of tables.
+-- and what chained means. A list of nodes may name numbers that no node has; they count as unknown. In a clock 0 stands for nothing, since sequences begin
+-- at 1; where a node is looked for, `size` stands for none. Nothing here speaks of tables.
 -- Assumes nothing.
 use mathlib.Core.Path.{_≡_}
 use mathlib.Core.Bool.{Bool, true, not, cond, _&&_, _||_}
@@ -38,7 +39,7 @@ pub data Reach (g : Graph) (s : List ℕ) : ℕ → Type 0 where
 unfoldable pub look : Graph → ℕ → (ℕ → Bool) → ℕ → Bool
 look g m w = cond (w m) (λ j. w j || mem j (g .deps m)) w
 
--- look at the nodes below m, the highest first
+-- look at the nodes below m, the highest first: a dependency is below its node, so one pass from the highest node marks all
 unfoldable pub pass : Graph → ℕ → (ℕ → Bool) → ℕ → Bool
 pass g zero w = w
 pass g (suc m) w = pass g m (look g m w)
@@ -69,7 +70,7 @@ pub record Held (g : Graph) (h : ℕ → Bool) (m a c : ℕ) : Type 0 where
   pub whose : g .actor node ≡ a
   pub value : g .seq node ≡ c
 
--- the clock of a set of nodes, at the actor a
+-- the clock of a set of nodes, at the actor a; 0 is nothing
 unfoldable pub clock-of : Graph → (ℕ → Bool) → ℕ → ℕ
 clock-of g h a = top g h (g .size) a
 
@@ -77,7 +78,7 @@ clock-of g h a = top g h (g .size) a
 unfoldable pub clock : Graph → List ℕ → ℕ → ℕ
 clock g s = clock-of g (hist g s)
 
--- no entry of d is larger than c's
+-- c covers d: no entry of d is larger than c's
 unfoldable pub Covers : (ℕ → ℕ) → (ℕ → ℕ) → Type 0
 Covers c d = (a : ℕ) → d a ≤ c a
 

@@ -7,7 +7,7 @@ use lib.Dec.{ltb}
 use lib.ListN.{replicate}
 use Rattle.paper.specs.Lists.{each-below, hashes-of, hashAt}
 use Rattle.paper.specs.Numbers.{number, no-owner}
-use Rattle.paper.specs.Graph.{Graph, nodes, clock, op-clock, missing, owner, heads, chained-old-test}
+use Rattle.paper.specs.Graph.{Graph, node, nodes, hist, clock, op-clock, missing, owner, heads, chained-old-test}
 use Rattle.paper.specs.Adding.{Hub, Change, Verdict, plain, unknown, outcome, judged, added}
 use Rattle.paper.specs.Session.{bench}
 use Rattle.paper.specs.Queue.{Waiting, Queue, of-list, order}
@@ -22,6 +22,8 @@ pub data Question : Type 0 where
   owner? : Hub → ℕ → ℕ → Question
   add? : Hub → Change → Question
   chained? : Hub → Question
+  -- is the hash in the history of the list?
+  inside? : Hub → List ℕ → List (List ℕ) → Question
   order? : List Waiting → Question
 
 pub data Answer : Type 0 where
@@ -48,6 +50,7 @@ answer (missing? u hs) = hashes (map (u .graph .hash) (missing (u .graph) (nodes
 answer (owner? u a c) = owned (u .graph) (owner (u .graph) a c)
 answer (add? u x) = told x (judged u x)
 answer (chained? u) = yes-no (chained-old-test (u .graph))
+answer (inside? u h hs) = yes-no (hist (u .graph) (nodes (u .graph) hs) (node (u .graph) h))
 answer (order? ws) = hashes (map (λ i. of-list ws .at i .hash) (order (λ h. false) (of-list ws)))
 
 -- ---- the graphs asked
@@ -96,6 +99,7 @@ abbrev pub samples : List Sample
 samples =
     -- P1: an empty graph has no heads and an empty clock
     sample (heads? (bench 2)) (hashes [])
+    ∷ sample (clock? (bench 2) []) (entries (0 ∷ 0 ∷ []))
     ∷ sample (clock? (bench 2) (H 1 ∷ [])) (entries (0 ∷ 0 ∷ []))
     -- P2: an unknown head has an empty clock, and all is missing
     ∷ sample (clock? worked (H 9 ∷ [])) (entries (0 ∷ 0 ∷ []))
@@ -109,6 +113,7 @@ samples =
     ∷ sample (add? worked (change 5 0 3 6 1 (H 4))) (names-hash 4 (H 4))
     -- P9: nothing is missing, though H1 is outside the history; not chained
     ∷ sample (missing? loose (H 2 ∷ [])) (hashes [])
+    ∷ sample (inside? loose (H 1) (H 2 ∷ [])) (yes-no false)
     ∷ sample (chained? loose) (yes-no false)
     -- P10: count 0 owns nothing
     ∷ sample (owner? idle 0 7) (refused 14)

@@ -15,7 +15,7 @@ use Rattle.paper.specs.Queue.{Waiting, Queue, of-list, order, rest, dropped, ke
 use Rattle.paper.proofs.Books.{balanced-always}
 use Rattle.ready.specs.Tables.{queueOf, recordAt, knownIn}
 use Rattle.records.specs.Records.{Filled, placeOf}
-use Rattle.waiting.specs.Valid.{room, waiting, Laid, Valid, Checked, Same, isRoomy, OpenedTo}
+use Rattle.waiting.specs.Valid.{Store, GoodStore, room, waiting, Laid, Valid, Checked, Same, isRoomy, OpenedTo}
 use Rattle.waiting.specs.ValidLaws.{roomy-rooms}
 use Rattle.waiting.specs.Taken.{TakenOut}
 use Rattle.waiting.specs.declared.Opened.{Opened}
@@ -38,16 +38,6 @@ use Rattle.queue_books.specs.Alike.{Alike, Low, order-alike, rest-alike,
 use Rattle.queue_books.specs.Listed.{list-alike, low-order, low-rest, low-kept}
 use Rattle.queue_books.specs.Stays.{change, opened-valid, opened-list, pushed-valid, pushed-list, handed-valid, handed-list, emptied-valid, emptied-list, taken-valid, taken-list, given-list, given-in-order}
 
--- the lent tables of a queue or a batch
-pub record Store : Type 0 where
-  pub hashes : List ℕ
-  pub numbers : List ℕ
-  pub deps : List ℕ
-  pub count : List ℕ
-
-abbrev pub Good : Store → Type 0
-Good s = Valid (s .hashes) (s .numbers) (s .deps) (s .count)
-
 -- what waits in it
 abbrev pub held : Store → List Waiting
 held s = listOf (s .hashes) (s .numbers) (s .deps) (waiting (s .count))
@@ -55,11 +45,11 @@ held s = listOf (s .hashes) (s .numbers) (s .deps) (waiting (s .count))
 -- ---- the promises
 
 pub record Pushing (b : Store) (h : List ℕ) (key seq top ops : ℕ) (needs : List ℕ) (r : Pushed) (b′ : Store) : Type 0 where
-  pub answer : Checked (Good b) (r ≡ judged (b .hashes) (b .numbers) (b .count) h key seq needs) (r ≡ NotValid)
+  pub answer : Checked (GoodStore b) (r ≡ judged (b .hashes) (b .numbers) (b .count) h key seq needs) (r ≡ NotValid)
   pub memory : PushedTo r (b .hashes) (b .numbers) (b .deps) (b .count) h key seq top ops needs (b′ .hashes) (b′ .numbers) (b′ .deps) (b′ .count)
 
 pub record Handing (q b : Store) (r : Handed) (q′ : Store) (bcs′ : List ℕ) : Type 0 where
-  pub answer : Checked (Good q × Good b) (r ≡ handedAs (q .hashes) (q .numbers) (q .count) (b .hashes) (b .numbers) (b .count)) (r ≡ NotOver)
+  pub answer : Checked (GoodStore q × GoodStore b) (r ≡ handedAs (q .hashes) (q .numbers) (q .count) (b .hashes) (b .numbers) (b .count)) (r ≡ NotOver)
   pub memory : HandedTo r (q .hashes) (q .numbers) (q .deps) (q .count) (b .hashes) (b .numbers) (b .deps) (b .count) (q′ .hashes) (q′ .numbers) (q′ .deps) (q′ .count) bcs′
 
 pub record Releasing (gs : List ℕ) (k : ℕ) (q : Store) (th tn td : List ℕ) (r : Released) (q′ : Store) (th′ tn′ td′ : List ℕ) : Type 0 where
@@ -67,7 +57,7 @@ pub record Releasing (gs : List ℕ) (k : ℕ) (q : Store) (th tn td : List ℕ)
   pub memory : ReleasedTo r gs k (q .hashes) (q .numbers) (q .deps) (q .count) th tn td (q′ .hashes) (q′ .numbers) (q′ .deps) (q′ .count) th′ tn′ td′
 
 pub record Dropping (q : Store) (key from : ℕ) (r : Removed) (q′ : Store) : Type 0 where
-  pub answer : Checked (Good q) (r ≡ Gone) (r ≡ NotGone)
+  pub answer : Checked (GoodStore q) (r ≡ Gone) (r ≡ NotGone)
   pub memory : RemovedTo r (q .hashes) (q .numbers) (q .deps) (q .count) key from (q′ .hashes) (q′ .numbers) (q′ .deps) (q′ .count)
 
 -- what a call adds to the paper's list of calls: one where it answers 0, none where not
@@ -111,12 +101,12 @@ pub data Runs : Store → Store → List Call → Store → Store → Type 0 whe
 
 -- the tables are valid and hold what the books say
 pub record Holds (q b : Store) (k : Books) : Type 0 where
-  pub queue : Good q
-  pub batch : Good b
+  pub queue : GoodStore q
+  pub batch : GoodStore b
   pub waits : held q ≡ k .waiting
   pub batched : held b ≡ k .batch
 
-same-good : {s t : Store} → Same (s .hashes) (s .numbers) (s .deps) (s .count) (t .hashes) (t .numbers) (t .deps) (t .count) → Good s → Good t
+same-good : {s t : Store} → Same (s .hashes) (s .numbers) (s .deps) (s .count) (t .hashes) (t .numbers) (t .deps) (t .count) → GoodStore s → GoodStore t
 same-good e v = rw (e .hashes, e .numbers, e .deps, e .count) v
 
 same-held : {s t : Store} → Same (s .hashes) (s .numbers) (s .deps) (s .count) (t .hashes) (t .numbers) (t .deps) (t .count) → held t ≡ held s
@@ -214,7 +204,7 @@ all-roomy : (b : Bool) (m n : ℕ) → All m ≡ cond b (All n) Short → (b ≡
 all-roomy true m n e = (refl, cc)
 all-roomy false m n e = let z : _≡_ {A = ℕ} 0 1 = cc in absurd (omega arith)
 
-module _ (gs : List ℕ) (n : ℕ) {q q′ : Store} {th tn td th′ tn′ td′ : List ℕ} (v : Good q) (m : ℕ) (p : Releasing gs n q th tn td (All m) q′ th′ tn′ td′) where
+module _ (gs : List ℕ) (n : ℕ) {q q′ : Store} {th tn td th′ tn′ td′ : List ℕ} (v : GoodStore q) (m : ℕ) (p : Releasing gs n q th tn td (All m) q′ th′ tn′ td′) where
   all-of : (isRoomy (length th) (length tn) (length td) (length (readyOf gs n (q .hashes) (q .numbers) (q .deps) (q .count))) ≡ true) × (m ≡ length (readyOf gs n (q .hashes) (q .numbers) (q .deps) (q .count)))
   unfolding releasedAs
   all-of =

@@ -14,6 +14,16 @@ use Rattle.records.specs.Records.{Few}
 use Rattle.waiting.specs.declared.Opened.{Opened}
 use Rattle.waiting.specs.declared.Opened.the-variants.{Done, NotValid}
 
+-- the lent tables of a queue or a batch
+pub record Store : Type 0 where
+  pub hashes : List ℕ
+  pub numbers : List ℕ
+  pub deps : List ℕ
+  pub count : List ℕ
+
+abbrev pub store : List ℕ → List ℕ → List ℕ → List ℕ → Store
+store hs ns ds cs = record { hashes = hs; numbers = ns; deps = ds; count = cs }
+
 -- how many records there is room for
 abbrev pub room : List ℕ → ℕ
 room hs = length hs / 32
@@ -40,6 +50,10 @@ pub record Valid (hs ns ds cs : List ℕ) : Type 0 where
   pub sized : Sized hs ns ds cs
   pub few : Few ns (waiting cs)
   pub distinct : Distinct (queueOf hs ns ds (waiting cs))
+
+-- the same of a store
+abbrev pub GoodStore : Store → Type 0
+GoodStore s = Valid (s .hashes) (s .numbers) (s .deps) (s .count)
 
 -- a public operation: what is lent is valid and the one holds, or it is not and the other does
 abbrev pub Checked : Type 0 → Type 0 → Type 0 → Type 0
