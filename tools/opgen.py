@@ -263,7 +263,7 @@ class Operation:
         ends = " ".join(p.name + "′" for p in self.muts if p.name != "edges")
         tables = " ts′ xs′" if changes else ""
         out = [f"-- what the core says of the two local tables, and from that what the function says\nmodule _ {binders} (r : ℕ) ({ends}{tables} : List ℕ) where"]
-        cored = f"Told ({R}) (length edges) {plain('ts', 'xs')} r {plain('ts′', 'xs′', True)}" if changes else f"Asked ({R}) ({self.says['refusal']}) (length edges) {plain('ts', 'xs')}"
+        cored = f"OverFirst ({R}) (length edges) {plain('ts', 'xs')} r {plain('ts′', 'xs′', True)}" if changes else f"AskedOverFirst ({R}) ({self.says['refusal']}) (length edges) {plain('ts', 'xs')}"
         law = "told-of"
         if changes and "refusal" in self.says:
             cored, law = f"{cored} × (Beyond (length edges) {plain('ts', 'xs')} → {self.says['refusal']})", "beside-of"

@@ -18,8 +18,8 @@ use Rattle.clock.specs.Clock as clock
 use Rattle.clock.specs.Places.{length-inserted, inserted-low, inserted-here, inserted-high, length-removed, removed-low, removed-high, removed-free}
 use Rattle.tables.specs.Tables.{Tables, changes, actors, changeRoom, actorRoom, actorAt}
 use Rattle.tables.specs.Valid.{countOf, Numbers, Valid}
-use Rattle.actors.specs.declared.Numbered.the-variants.{Done, NoActor, HasChanges, NoRoom}
-use Rattle.actors.specs.Actors.{opening, inserting, removing, widen, narrow, renumbered, filled, rowAt, rowsBy}
+use Rattle.actors.specs.declared.ActorAnswer.the-variants.{Done, NoActor, HasChanges, NoRoom}
+use Rattle.actors.specs.Actors.{opening, inserting, removing, widen, narrow, renumbered, rowFilled, rowAt, rowsBy}
 
 -- ---- renumbered nodes
 
@@ -59,28 +59,28 @@ module _ (f : ℕ → ℕ) (ns : List ℕ) where
 -- ---- a row that is filled
 
 module _ (b : ℕ) (s : ℕ → ℕ) (cs : List ℕ) where
-  pub filled-long : (m : ℕ) → length (filled b s m cs) ≡ length cs
-  unfolding filled
+  pub filled-long : (m : ℕ) → length (rowFilled b s m cs) ≡ length cs
+  unfolding rowFilled
   filled-long zero = refl
-  filled-long (suc m) = length-set (filled b s m cs) (b + m) (s m) ∙ filled-long m
+  filled-long (suc m) = length-set (rowFilled b s m cs) (b + m) (s m) ∙ filled-long m
 
-  pub filled-low : (m i : ℕ) → i < b → getD (filled b s m cs) i 0 ≡ getD cs i 0
-  unfolding filled
+  pub filled-low : (m i : ℕ) → i < b → getD (rowFilled b s m cs) i 0 ≡ getD cs i 0
+  unfolding rowFilled
   filled-low zero i l = refl
-  filled-low (suc m) i l = getD-set-other (filled b s m cs) (b + m) i (s m) 0 (λ q. omega arith) ∙ filled-low m i l
+  filled-low (suc m) i l = getD-set-other (rowFilled b s m cs) (b + m) i (s m) 0 (λ q. omega arith) ∙ filled-low m i l
 
-  pub filled-high : (m i : ℕ) → b + m ≤ i → getD (filled b s m cs) i 0 ≡ getD cs i 0
-  unfolding filled
+  pub filled-high : (m i : ℕ) → b + m ≤ i → getD (rowFilled b s m cs) i 0 ≡ getD cs i 0
+  unfolding rowFilled
   filled-high zero i l = refl
-  filled-high (suc m) i l = getD-set-other (filled b s m cs) (b + m) i (s m) 0 (λ q. omega arith) ∙ filled-high m i (omega arith)
+  filled-high (suc m) i l = getD-set-other (rowFilled b s m cs) (b + m) i (s m) 0 (λ q. omega arith) ∙ filled-high m i (omega arith)
 
-  pub filled-in : (m i : ℕ) → b + m ≤ length cs → i < m → getD (filled b s m cs) (b + i) 0 ≡ s i
-  unfolding filled
+  pub filled-in : (m i : ℕ) → b + m ≤ length cs → i < m → getD (rowFilled b s m cs) (b + i) 0 ≡ s i
+  unfolding rowFilled
   filled-in zero i r l = absurd (omega arith)
   filled-in (suc m) i r l =
-      below-suc (λ (j : ℕ). getD (filled b s (suc m) cs) (b + j) 0 ≡ s j) m i l
-      (λ h. getD-set-other (filled b s m cs) (b + m) (b + i) (s m) 0 (λ q. omega arith) ∙ filled-in m i (omega arith) h)
-      (getD-set-same (filled b s m cs) (b + m) (s m) 0 (let z = filled-long m in omega arith))
+      below-suc (λ (j : ℕ). getD (rowFilled b s (suc m) cs) (b + j) 0 ≡ s j) m i l
+      (λ h. getD-set-other (rowFilled b s m cs) (b + m) (b + i) (s m) 0 (λ q. omega arith) ∙ filled-in m i (omega arith) h)
+      (getD-set-same (rowFilled b s m cs) (b + m) (s m) 0 (let z = filled-long m in omega arith))
 
 -- ---- rows
 
@@ -114,9 +114,9 @@ module _ (s : (ℕ → ℕ) → ℕ → ℕ) (w : ℕ) (cs : List ℕ) where
   pub rows-read : (n : ℕ) → rowAt (rowsBy s w n cs) (n * w) w ≡ rowAt cs (n * w) w
   rows-read n = fun-ext (λ i. ap (λ (v : ℕ). cond (ltb i w) v 0) (rows-high n (n * w + i) (omega arith)))
 
-  pub rows-next : (n : ℕ) → filled (n * w) (s (rowAt (rowsBy s w n cs) (n * w) w)) w (rowsBy s w n cs) ≡ rowsBy s w (n + 1) cs
+  pub rows-next : (n : ℕ) → rowFilled (n * w) (s (rowAt (rowsBy s w n cs) (n * w) w)) w (rowsBy s w n cs) ≡ rowsBy s w (n + 1) cs
   unfolding rowsBy
-  rows-next n = rw add-one (ap (λ (c : ℕ → ℕ). filled (n * w) (s c) w (rowsBy s w n cs)) (rows-read n))
+  rows-next n = rw add-one (ap (λ (c : ℕ → ℕ). rowFilled (n * w) (s c) w (rowsBy s w n cs)) (rows-read n))
 
 -- cs′ is cs with its first k rows changed
 pub record Passing (s : (ℕ → ℕ) → ℕ → ℕ) (w n : ℕ) (cs : List ℕ) (k : ℕ) (cs′ : List ℕ) : Type 0 where
@@ -133,12 +133,12 @@ module _ (s : (ℕ → ℕ) → ℕ → ℕ) (w n : ℕ) (cs : List ℕ) where
   unfolding rowsBy
   passing-start = record { high = omega arith; long = refl; same = refl }
 
-  pub passing-next : {k : ℕ} {cs′ cs″ : List ℕ} → Passing s w n cs k cs′ → k < n → cs″ ≡ filled (k * w) (s (rowAt cs′ (k * w) w)) w cs′ → Passing s w n cs (k + 1) cs″
+  pub passing-next : {k : ℕ} {cs′ cs″ : List ℕ} → Passing s w n cs k cs′ → k < n → cs″ ≡ rowFilled (k * w) (s (rowAt cs′ (k * w) w)) w cs′ → Passing s w n cs (k + 1) cs″
   passing-next {k} {cs′} {cs″} v l e =
       record {
         high = omega arith;
         long = ap length e ∙ filled-long (k * w) (s (rowAt cs′ (k * w) w)) cs′ w ∙ v .long;
-        same = e ∙ ap (λ (l : List ℕ). filled (k * w) (s (rowAt l (k * w) w)) w l) (v .same) ∙ rows-next s w cs k;
+        same = e ∙ ap (λ (l : List ℕ). rowFilled (k * w) (s (rowAt l (k * w) w)) w l) (v .same) ∙ rows-next s w cs k;
       }
 
   pub passing-end : {k : ℕ} {cs′ : List ℕ} → Passing s w n cs k cs′ → n ≤ k → cs′ ≡ rowsBy s w n cs
@@ -161,18 +161,18 @@ module _ (cs : List ℕ) (b w : ℕ) (fits : b + w ≤ length cs) where
 
   -- a row that holds s 0, s 1, ..: its first m entries are put back, and all are
   module _ (s : ℕ → ℕ) (row : List ℕ) (long : length row ≡ w) (holds : (i : ℕ) → i < w → getD row i 0 ≡ s i) where
-    some-back : (m : ℕ) → m ≤ w → paste cs b row m ≡ filled b s m cs
-    unfolding filled
+    some-back : (m : ℕ) → m ≤ w → paste cs b row m ≡ rowFilled b s m cs
+    unfolding rowFilled
     some-back zero l = sym (paste-zero cs b row)
     some-back (suc m) l = sym (paste-suc cs b row m 0 (omega arith) (omega arith)) ∙ ap₂ (λ (c : List ℕ) (v : ℕ). set c (b + m) v) (some-back m (omega arith)) (holds m l)
 
-    all-back : put b w cs row ≡ filled b s w cs
+    all-back : put b w cs row ≡ rowFilled b s w cs
     all-back =
         let k : b + w - b ≡ w = omega arith in
         rw (k, drop-drop w b cs, ← append-assoc (take b cs) row (drop (b + w) cs), ← take-all w row (omega arith)) (some-back w (omega arith))
 
   -- it is the clocks' shift that opens place p, and closes it
-  pub widened : {p : ℕ} {row : List ℕ} → p < w → row ≡ clock.inserted (lent b w cs) (w - 1) p → put b w cs row ≡ filled b (widen p (rowAt cs b w)) w cs
+  pub widened : {p : ℕ} {row : List ℕ} → p < w → row ≡ clock.inserted (lent b w cs) (w - 1) p → put b w cs row ≡ rowFilled b (widen p (rowAt cs b w)) w cs
   widened {p} {row} l e = rw e (all-back _ (clock.inserted (lent b w cs) (w - 1) p) (length-inserted (lent b w cs) _ _ low long ∙ lent-long) at)
     where
       low : p ≤ w - 1
@@ -193,7 +193,7 @@ module _ (cs : List ℕ) (b w : ℕ) (fits : b + w ≤ length cs) where
           (⊎-elim (λ q. rw (le-ltb i p (omega arith), eq-eqb i p q, q) (inserted-here _ _ _ low long)) (high i h))
           (three-ways i p)
 
-  pub narrowed : {p : ℕ} {row : List ℕ} → p < w → row ≡ clock.removed (lent b w cs) w p → put b w cs row ≡ filled b (narrow p (rowAt cs b w)) w cs
+  pub narrowed : {p : ℕ} {row : List ℕ} → p < w → row ≡ clock.removed (lent b w cs) w p → put b w cs row ≡ rowFilled b (narrow p (rowAt cs b w)) w cs
   narrowed {p} {row} l e = rw e (all-back _ (clock.removed (lent b w cs) w p) (length-removed (lent b w cs) _ _ l long ∙ lent-long) at)
     where
       long : w ≤ length (lent b w cs)

@@ -11,7 +11,7 @@ use lib.ListN.{length, getD, set, length-set}
 use lib.Seq.{getD-set-same, getD-set-other}
 use borrow.Author.Tests.{ltb-true, ltb-false, lt-ltb, le-ltb, le-leb, lt-leb, leb-true, leb-false, eq-eqb, ne-eqb, eqb-true, eqb-false}
 use Rattle.paper.specs.Lists.{mem, tally, some-below}
-use Rattle.paper.specs.Graph.{Graph, clock, wanted, Valid as ValidGraph}
+use Rattle.paper.specs.Graph.{Graph, clock, wanted, ValidGraph}
 use Rattle.paper.specs.ProofWords.{Relabels}
 use Rattle.paper.proofs.Bools.{by-bool, below-or-not, tally-up, some-ext}
 use Rattle.paper.proofs.Clock.{clock-least}
@@ -20,11 +20,11 @@ use Rattle.paper.proofs.Relabel.{valid-relabel, clock-relabel, clock-relabel-ne
 use Rattle.clock.specs.Clock.{raised}
 use Rattle.clock.specs.Places.{raised-low, raised-high}
 use Rattle.tables.specs.Tables.{Tables, changes, edges, actors, changeRoom, actorRoom, widthOf, actorAt, headAt, entryAt, along, graph}
-use Rattle.tables.specs.Valid.{Lengths, Counts, Distinct, NumbersAt, Numbers, Laid, Running, Heads, Rows, Sound, Valid, countOf}
+use Rattle.tables.specs.Valid.{Lengths, Counts, HashesDistinct, NumbersAt, Numbers, Laid, Running, Heads, Rows, Sound, Valid, countOf}
 use Rattle.tables.specs.LaidLaws.{laid-same}
 use Rattle.tables.specs.DepsLaws.{valid-graph}
-use Rattle.actors.specs.declared.Numbered.the-variants.{Done}
-use Rattle.actors.specs.Actors.{lower, widen, narrow, renumbered, rowAt, rowsBy, renamed, inserted, removed, inserting, removing}
+use Rattle.actors.specs.declared.ActorAnswer.the-variants.{Done}
+use Rattle.actors.specs.Actors.{lower, widen, narrow, renumbered, rowAt, rowsBy, renamed, actorInserted, actorRemoved, inserting, removing}
 use Rattle.actors.specs.ActorLaws.{renumbered-long, renumbered-other, renumbered-actor, rows-long, rows-in, Rooms, rooms}
 
 -- ---- a renumbering f, with what s makes of a clock, for a actors afterwards
@@ -162,7 +162,7 @@ module _ (f : ℕ → ℕ) (s : (ℕ → ℕ) → ℕ → ℕ) (a : ℕ) (t : Ta
                 record {
                   lengths = lengths;
                   counts = record { changes-fit = omega (arith, u .changes-fit); edges-fit = omega (arith, u .edges-fit); actors-fit = omega arith };
-                  distinct = subst (Distinct (t .hashes)) (sym same-changes) (v .sound .distinct);
+                  distinct = subst (HashesDistinct (t .hashes)) (sym same-changes) (v .sound .distinct);
                   numbers = numbers;
                   laid = laid;
                   running = valid-relabel f (graph t) (graph (renamed f s a t)) (valid-graph t (v .sound)) relabels .runs;
@@ -186,32 +186,32 @@ raised-new p x e = ⊎-elim (λ l. let a = raised-low p x l in omega arith) (λ 
 
 module _ (t : Tables) (p : ℕ) (v : Valid t) (within : p ≤ actors t) (room : actors t < actorRoom t) where
   -- the graph has its actors' numbers moved up from p on, and nothing else
-  pub inserted-relabels : Relabels (raised p) (graph t) (graph (inserted t p))
+  pub inserted-relabels : Relabels (raised p) (graph t) (graph (actorInserted t p))
   inserted-relabels = relabels (raised p) (widen p) (actors t + 1) t v (λ j k lj lk e. raised-apart p (actorAt (t .nodes) j) (actorAt (t .nodes) k) e)
 
-  moved : (l : List ℕ) (x : ℕ) → clock (graph (inserted t p)) l (raised p x) ≡ clock (graph t) l x
-  moved l x = clock-relabel (raised p) (graph t) (graph (inserted t p)) (valid-graph t (v .sound)) inserted-relabels l x (λ k b e. raised-apart p (actorAt (t .nodes) k) x e)
+  moved : (l : List ℕ) (x : ℕ) → clock (graph (actorInserted t p)) l (raised p x) ≡ clock (graph t) l x
+  moved l x = clock-relabel (raised p) (graph t) (graph (actorInserted t p)) (valid-graph t (v .sound)) inserted-relabels l x (λ k b e. raised-apart p (actorAt (t .nodes) k) x e)
 
   -- every clock goes with its actors, and the new one has nothing
-  pub inserted-clock : (l : List ℕ) (i : ℕ) → clock (graph (inserted t p)) l i ≡ widen p (clock (graph t) l) i
+  pub inserted-clock : (l : List ℕ) (i : ℕ) → clock (graph (actorInserted t p)) l i ≡ widen p (clock (graph t) l) i
   inserted-clock l i =
       ⊎-elim
-      (λ b. rw (lt-ltb i p b) (ap (clock (graph (inserted t p)) l) (sym (raised-low p i b)) ∙ moved l i))
+      (λ b. rw (lt-ltb i p b) (ap (clock (graph (actorInserted t p)) l) (sym (raised-low p i b)) ∙ moved l i))
       (λ b.
       by-bool (eqb i p)
       (λ y.
       rw (le-ltb i p b, y)
-      (clock-relabel-new (raised p) (graph t) (graph (inserted t p)) (valid-graph t (v .sound)) inserted-relabels l i (λ k h e. raised-new p (actorAt (t .nodes) k) (e ∙ eqb-true i p y))))
+      (clock-relabel-new (raised p) (graph t) (graph (actorInserted t p)) (valid-graph t (v .sound)) inserted-relabels l i (λ k h e. raised-new p (actorAt (t .nodes) k) (e ∙ eqb-true i p y))))
       (λ n.
       let m = eqb-false i p n in
       let q : raised p (i - 1) ≡ i = past i b m in
-      rw (le-ltb i p b, n) (ap (clock (graph (inserted t p)) l) (sym q) ∙ moved l (i - 1))))
+      rw (le-ltb i p b, n) (ap (clock (graph (actorInserted t p)) l) (sym q) ∙ moved l (i - 1))))
       (below-or-not i p)
     where
       past : (i : ℕ) → p ≤ i → (i ≡ p → ⊥) → raised p (i - 1) ≡ i
       past i b m = ⊎-elim (λ l. raised-high p (i - 1) (omega arith) ∙ omega arith) (λ l. absurd (m (omega arith))) (below-or-not p i)
 
-  pub inserted-valid : Valid (inserted t p)
+  pub inserted-valid : Valid (actorInserted t p)
   unfolding Numbers
   inserted-valid =
       stays-valid (raised p) (widen p) (actors t + 1) t v (λ j k lj lk e. raised-apart p (actorAt (t .nodes) j) (actorAt (t .nodes) k) e) below (omega arith) none inserted-clock
@@ -248,23 +248,23 @@ module _ (t : Tables) (p : ℕ) (v : Valid t) (within : p < actors t) (unused : 
   keeps-apart j k lj lk e = lower-apart p (actorAt (t .nodes) j) (actorAt (t .nodes) k) (nobody j lj) (nobody k lk) e
 
   -- the graph has its actors' numbers moved down above p, and nothing else
-  pub removed-relabels : Relabels (lower p) (graph t) (graph (removed t p))
+  pub removed-relabels : Relabels (lower p) (graph t) (graph (actorRemoved t p))
   removed-relabels = relabels (lower p) (narrow p) (actors t - 1) t v keeps-apart
 
-  kept : (l : List ℕ) (x : ℕ) → (x ≡ p → ⊥) → clock (graph (removed t p)) l (lower p x) ≡ clock (graph t) l x
-  kept l x n = clock-relabel (lower p) (graph t) (graph (removed t p)) (valid-graph t (v .sound)) removed-relabels l x (λ k b e. lower-apart p (actorAt (t .nodes) k) x (nobody k b) n e)
+  kept : (l : List ℕ) (x : ℕ) → (x ≡ p → ⊥) → clock (graph (actorRemoved t p)) l (lower p x) ≡ clock (graph t) l x
+  kept l x n = clock-relabel (lower p) (graph t) (graph (actorRemoved t p)) (valid-graph t (v .sound)) removed-relabels l x (λ k b e. lower-apart p (actorAt (t .nodes) k) x (nobody k b) n e)
 
   -- every clock goes with its actors
-  pub removed-clock : (l : List ℕ) (i : ℕ) → clock (graph (removed t p)) l i ≡ narrow p (clock (graph t) l) i
+  pub removed-clock : (l : List ℕ) (i : ℕ) → clock (graph (actorRemoved t p)) l i ≡ narrow p (clock (graph t) l) i
   removed-clock l i =
       ⊎-elim
-      (λ b. rw (lt-ltb i p b) (ap (clock (graph (removed t p)) l) (sym (lower-low p i (omega arith))) ∙ kept l i (λ q. omega arith)))
+      (λ b. rw (lt-ltb i p b) (ap (clock (graph (actorRemoved t p)) l) (sym (lower-low p i (omega arith))) ∙ kept l i (λ q. omega arith)))
       (λ b.
       let q : lower p (suc i) ≡ i = lower-high p (suc i) (omega arith) ∙ omega arith in
-      rw (le-ltb i p b) (ap (clock (graph (removed t p)) l) (sym q) ∙ kept l (suc i) (λ q. omega arith)))
+      rw (le-ltb i p b) (ap (clock (graph (actorRemoved t p)) l) (sym q) ∙ kept l (suc i) (λ q. omega arith)))
       (below-or-not i p)
 
-  pub removed-valid : Valid (removed t p)
+  pub removed-valid : Valid (actorRemoved t p)
   unfolding Numbers
   removed-valid = stays-valid (lower p) (narrow p) (actors t - 1) t v keeps-apart below (let f = v .sound .counts .actors-fit in omega arith) (λ i. by-bool (ltb i p) (λ y. rw y) (λ n. rw n)) removed-clock
     where

@@ -5,10 +5,10 @@ ghost use lib.ListN.{length};
 ghost use Rattle.clock.specs.Clock.{raised};
 ghost use Rattle.tables.specs.Tables.{tables, actorAt};
 ghost use Rattle.tables.specs.Valid.{Lengths, Valid};
-ghost use Rattle.actors.specs.Actors.{numberOf, opening, inserting, removing, lower, widen, narrow, renumbered, filled, rowAt, rowsBy, inserted, removed, opened, ifDone};
+ghost use Rattle.actors.specs.Actors.{actorNumber, opening, inserting, removing, lower, widen, narrow, renumbered, rowFilled, rowAt, rowsBy, actorInserted, actorRemoved, opened, ifActorsDone};
 
 // What opening, putting in or taking away comes to.
-pub enum Numbered {
+pub enum ActorAnswer {
     Done,
     NoActor,
     HasChanges,
@@ -16,14 +16,14 @@ pub enum Numbered {
 }
 
 // The paper's number.
-pub fn number(j: Numbered) -> u32
-    ensures { λ r. ⌜ r ≡ numberOf j ⌝ }
+pub fn number(j: ActorAnswer) -> u32
+    ensures { λ r. ⌜ r ≡ actorNumber j ⌝ }
 {
     match j {
-        Numbered::Done => 0,
-        Numbered::NoActor => 5,
-        Numbered::HasChanges => 11,
-        Numbered::NoRoom => 12,
+        ActorAnswer::Done => 0,
+        ActorAnswer::NoActor => 5,
+        ActorAnswer::HasChanges => 11,
+        ActorAnswer::NoRoom => 12,
     }
 }
 
@@ -36,19 +36,19 @@ pub fn open_empty(
     clocks: &[u32],
     counts: &mut [u32],
     actors: u64,
-) -> Numbered
+) -> ActorAnswer
     requires { ⌜ Lengths (tables (now hashes) (now nodes) (now targets) (now nexts) (now clocks) (now counts)) ⌝ }
     ensures { λ r. ⌜ r ≡ opening (tables (now (hashes .entry)) (now (nodes .entry)) (now (targets .entry)) (now (nexts .entry)) (now (clocks .entry)) (now (counts .entry))) actors ⌝ }
-    ensures { λ r. ⌜ tables (now (hashes .entry)) (now (nodes .entry)) (now (targets .entry)) (now (nexts .entry)) (now (clocks .entry)) (now (counts .exit)) ≡ ifDone r (opened (tables (now (hashes .entry)) (now (nodes .entry)) (now (targets .entry)) (now (nexts .entry)) (now (clocks .entry)) (now (counts .entry))) actors) (tables (now (hashes .entry)) (now (nodes .entry)) (now (targets .entry)) (now (nexts .entry)) (now (clocks .entry)) (now (counts .entry))) ⌝ }
+    ensures { λ r. ⌜ tables (now (hashes .entry)) (now (nodes .entry)) (now (targets .entry)) (now (nexts .entry)) (now (clocks .entry)) (now (counts .exit)) ≡ ifActorsDone r (opened (tables (now (hashes .entry)) (now (nodes .entry)) (now (targets .entry)) (now (nexts .entry)) (now (clocks .entry)) (now (counts .entry))) actors) (tables (now (hashes .entry)) (now (nodes .entry)) (now (targets .entry)) (now (nexts .entry)) (now (clocks .entry)) (now (counts .entry))) ⌝ }
 {
     let w = tables::actor_room(hashes, clocks);
     if (w as u64) < actors {
-        return Numbered::NoRoom;
+        return ActorAnswer::NoRoom;
     }
     counts[0] = 0;
     counts[1] = 0;
     counts[2] = actors as u32;
-    Numbered::Done
+    ActorAnswer::Done
 }
 
 // An actor's number after one came in at place p.
@@ -94,7 +94,7 @@ fn renumber_down(nodes: &mut [u32], n: usize, p: usize)
 // Opens place p in the row of w entries from b on.
 fn widen_row(clocks: &mut [u32], b: usize, w: usize, p: usize)
     requires { ⌜ (b + w ≤ length (now clocks)) × (p < w) ⌝ }
-    ensures { λ _. ⌜ now (clocks .exit) ≡ filled b (widen p (rowAt (now (clocks .entry)) b w)) w (now (clocks .entry)) ⌝ }
+    ensures { λ _. ⌜ now (clocks .exit) ≡ rowFilled b (widen p (rowAt (now (clocks .entry)) b w)) w (now (clocks .entry)) ⌝ }
 {
     clock::rewrite_with_new_actor(&mut clocks[b..b + w], w - 1, p);
 }
@@ -102,7 +102,7 @@ fn widen_row(clocks: &mut [u32], b: usize, w: usize, p: usize)
 // Closes place p in the row of w entries from b on.
 fn narrow_row(clocks: &mut [u32], b: usize, w: usize, p: usize)
     requires { ⌜ (b + w ≤ length (now clocks)) × (p < w) ⌝ }
-    ensures { λ _. ⌜ now (clocks .exit) ≡ filled b (narrow p (rowAt (now (clocks .entry)) b w)) w (now (clocks .entry)) ⌝ }
+    ensures { λ _. ⌜ now (clocks .exit) ≡ rowFilled b (narrow p (rowAt (now (clocks .entry)) b w)) w (now (clocks .entry)) ⌝ }
 {
     clock::remove_actor(&mut clocks[b..b + w], w, p);
 }
@@ -140,25 +140,25 @@ pub fn insert_actor(
     clocks: &mut [u32],
     counts: &mut [u32],
     place: u64,
-) -> Numbered
+) -> ActorAnswer
     requires { ⌜ Valid (tables (now hashes) (now nodes) (now targets) (now nexts) (now clocks) (now counts)) ⌝ }
     ensures { λ r. ⌜ r ≡ inserting (tables (now (hashes .entry)) (now (nodes .entry)) (now (targets .entry)) (now (nexts .entry)) (now (clocks .entry)) (now (counts .entry))) place ⌝ }
-    ensures { λ r. ⌜ tables (now (hashes .entry)) (now (nodes .exit)) (now (targets .entry)) (now (nexts .entry)) (now (clocks .exit)) (now (counts .exit)) ≡ ifDone r (inserted (tables (now (hashes .entry)) (now (nodes .entry)) (now (targets .entry)) (now (nexts .entry)) (now (clocks .entry)) (now (counts .entry))) place) (tables (now (hashes .entry)) (now (nodes .entry)) (now (targets .entry)) (now (nexts .entry)) (now (clocks .entry)) (now (counts .entry))) ⌝ }
+    ensures { λ r. ⌜ tables (now (hashes .entry)) (now (nodes .exit)) (now (targets .entry)) (now (nexts .entry)) (now (clocks .exit)) (now (counts .exit)) ≡ ifActorsDone r (actorInserted (tables (now (hashes .entry)) (now (nodes .entry)) (now (targets .entry)) (now (nexts .entry)) (now (clocks .entry)) (now (counts .entry))) place) (tables (now (hashes .entry)) (now (nodes .entry)) (now (targets .entry)) (now (nexts .entry)) (now (clocks .entry)) (now (counts .entry))) ⌝ }
 {
     let n = counts[0] as usize;
     let a = counts[2];
     let w = tables::actor_room(hashes, clocks);
     if (a as u64) < place {
-        return Numbered::NoRoom;
+        return ActorAnswer::NoRoom;
     }
     if w <= a as usize {
-        return Numbered::NoRoom;
+        return ActorAnswer::NoRoom;
     }
     let p = place as usize;
     renumber_up(nodes, n, p);
     widen_rows(clocks, n, w, p);
     counts[2] = a + 1;
-    Numbered::Done
+    ActorAnswer::Done
 }
 
 // Takes the actor at the place away, if it has no changes: numbers above move down by one, in changes and clocks. On a refusal nothing is changed.
@@ -170,23 +170,23 @@ pub fn remove_actor(
     clocks: &mut [u32],
     counts: &mut [u32],
     place: u64,
-) -> Numbered
+) -> ActorAnswer
     requires { ⌜ Valid (tables (now hashes) (now nodes) (now targets) (now nexts) (now clocks) (now counts)) ⌝ }
     ensures { λ r. ⌜ r ≡ removing (tables (now (hashes .entry)) (now (nodes .entry)) (now (targets .entry)) (now (nexts .entry)) (now (clocks .entry)) (now (counts .entry))) place ⌝ }
-    ensures { λ r. ⌜ tables (now (hashes .entry)) (now (nodes .exit)) (now (targets .entry)) (now (nexts .entry)) (now (clocks .exit)) (now (counts .exit)) ≡ ifDone r (removed (tables (now (hashes .entry)) (now (nodes .entry)) (now (targets .entry)) (now (nexts .entry)) (now (clocks .entry)) (now (counts .entry))) place) (tables (now (hashes .entry)) (now (nodes .entry)) (now (targets .entry)) (now (nexts .entry)) (now (clocks .entry)) (now (counts .entry))) ⌝ }
+    ensures { λ r. ⌜ tables (now (hashes .entry)) (now (nodes .exit)) (now (targets .entry)) (now (nexts .entry)) (now (clocks .exit)) (now (counts .exit)) ≡ ifActorsDone r (actorRemoved (tables (now (hashes .entry)) (now (nodes .entry)) (now (targets .entry)) (now (nexts .entry)) (now (clocks .entry)) (now (counts .entry))) place) (tables (now (hashes .entry)) (now (nodes .entry)) (now (targets .entry)) (now (nexts .entry)) (now (clocks .entry)) (now (counts .entry))) ⌝ }
 {
     let n = counts[0] as usize;
     let a = counts[2];
     let w = tables::actor_room(hashes, clocks);
     if a as u64 <= place {
-        return Numbered::NoActor;
+        return ActorAnswer::NoActor;
     }
     if judge::count_of(nodes, n, place) != 0 {
-        return Numbered::HasChanges;
+        return ActorAnswer::HasChanges;
     }
     let p = place as usize;
     renumber_down(nodes, n, p);
     narrow_rows(clocks, n, w, p);
     counts[2] = a - 1;
-    Numbered::Done
+    ActorAnswer::Done
 }

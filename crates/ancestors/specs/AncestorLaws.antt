@@ -23,13 +23,13 @@ use Rattle.tables.specs.Valid.{Valid}
 use Rattle.tables.specs.NodeLaws.{node-at, node-low, node-none}
 use Rattle.tables.specs.DepsLaws.{valid-graph}
 use Rattle.walk.specs.Marks.{marked, marks-of}
-use Rattle.answer_buffer.specs.Answers.{listed, filled}
+use Rattle.answer_buffer.specs.Answers.{listAnswer, filled}
 use Rattle.answer_buffer.specs.AnswerLaws.{Holds}
 use Rattle.answer_buffer.specs.Entering.{Entering}
 use Rattle.answer_buffer.specs.declared.Listed.the-variants.{Done, Malformed}
 use Rattle.current_heads.specs.CurrentLaws.{found, find-names}
 use Rattle.list_clock.specs.KnownLaws.{hist-knowns, starts-are}
-use Rattle.ancestors.specs.Ancestors.{removed, removed-told, removed-filled, unmarked, kept, first-kept, kept-bytes}
+use Rattle.ancestors.specs.Ancestors.{outside-bytes, removed-told, removed-filled, unmarked, stays, first-kept, kept-bytes}
 use Rattle.ancestors.specs.KeptLaws.{keep-ext, kept-to, kept-told, kept-whole, bytes-long}
 
 module _ (t : Tables) (v : Valid t) where
@@ -57,10 +57,10 @@ module _ (t : Tables) (v : Valid t) where
     unknown-out : hist (graph t) s (changes t) ≡ false
     unknown-out = to-false (hist (graph t) s (changes t)) (λ e. let b = hist-known (graph t) (valid-graph t (v .sound)) s (changes t) e in absurd (omega arith))
 
-    kept-outside : (h : List ℕ) → kept (t .hashes) (changes t) (marks-of (hist (graph t) s) r) h ≡ not (hist (graph t) s (node (graph t) h))
+    kept-outside : (h : List ℕ) → stays (t .hashes) (changes t) (marks-of (hist (graph t) s) r) h ≡ not (hist (graph t) s (node (graph t) h))
     kept-outside h = go (findHash (t .hashes) (changes t) h) refl
       where
-        go : (f : Found) → findHash (t .hashes) (changes t) h ≡ f → kept (t .hashes) (changes t) (marks-of (hist (graph t) s) r) h ≡ not (hist (graph t) s (node (graph t) h))
+        go : (f : Found) → findHash (t .hashes) (changes t) h ≡ f → stays (t .hashes) (changes t) (marks-of (hist (graph t) s) r) h ≡ not (hist (graph t) s (node (graph t) h))
         go (At k) e =
             ap (unmarked (marks-of (hist (graph t) s) r)) e
             ∙ ap not (mark-says k (let l = node-low t h k e in omega arith) ∙ ap (hist (graph t) s) (sym (node-at t h k e)))
@@ -68,16 +68,16 @@ module _ (t : Tables) (v : Valid t) where
             ap (unmarked (marks-of (hist (graph t) s) r)) e
             ∙ ap not (sym (ap (hist (graph t) s) (node-none t h e) ∙ unknown-out))
 
-  pub kept-removed : (list of : List ℕ) (r : ℕ) → changes t ≤ r → kept-bytes (t .hashes) (changes t) (marks-of (hist (graph t) (nodes (graph t) (hashes-of of))) r) list ≡ removed (graph t) list of
-  unfolding kept-bytes removed remove-ancestors
+  pub kept-removed : (list of : List ℕ) (r : ℕ) → changes t ≤ r → kept-bytes (t .hashes) (changes t) (marks-of (hist (graph t) (nodes (graph t) (hashes-of of))) r) list ≡ outside-bytes (graph t) list of
+  unfolding kept-bytes outside-bytes remove-ancestors
   kept-removed list of r l =
       ap (λ (hs : List (List ℕ)). flat (ascending hs))
-      (keep-ext (kept (t .hashes) (changes t) (marks-of (hist (graph t) (nodes (graph t) (hashes-of of))) r)) (λ h. not (hist (graph t) (nodes (graph t) (hashes-of of)) (node (graph t) h)))
+      (keep-ext (stays (t .hashes) (changes t) (marks-of (hist (graph t) (nodes (graph t) (hashes-of of))) r)) (λ h. not (hist (graph t) (nodes (graph t) (hashes-of of)) (node (graph t) h)))
       (kept-outside (nodes (graph t) (hashes-of of)) r l)
       (hashes-of list))
 
   -- marks made in a table of zeros
-  pub removed-bytes : (list of : List ℕ) (n : ℕ) → changes t ≤ n → {marks : List ℕ} → marks ≡ marks-of (hist (graph t) (nodes (graph t) (hashes-of of))) (length {A = ℕ} (replicate n 0)) → kept-bytes (t .hashes) (changes t) marks list ≡ removed (graph t) list of
+  pub removed-bytes : (list of : List ℕ) (n : ℕ) → changes t ≤ n → {marks : List ℕ} → marks ≡ marks-of (hist (graph t) (nodes (graph t) (hashes-of of))) (length {A = ℕ} (replicate n 0)) → kept-bytes (t .hashes) (changes t) marks list ≡ outside-bytes (graph t) list of
   removed-bytes list of n l e =
       ap (λ (m : List ℕ). kept-bytes (t .hashes) (changes t) m list) (e ∙ ap (marks-of (hist (graph t) (nodes (graph t) (hashes-of of)))) (length-replicate {A = ℕ} n 0)) ∙ kept-removed list of n l
 
@@ -104,11 +104,11 @@ module _ (g : Graph) (list of : List ℕ) where
       heads-unfilled out = rw (eq-eqb (length list % 32) 0 e, ne-eqb (length of % 32) 0 n)
 
     module _ (d : length of % 32 ≡ 0) where
-      pub removed-good : (room : ℕ) → removed-told g list of room ≡ listed (removed g list of) room
+      pub removed-good : (room : ℕ) → removed-told g list of room ≡ listAnswer (outside-bytes g list of) room
       unfolding removed-told
       removed-good room = rw (eq-eqb (length list % 32) 0 e, eq-eqb (length of % 32) 0 d)
 
-      pub filled-good : (out : List ℕ) → removed-filled g list of out ≡ filled (removed g list of) out
+      pub filled-good : (out : List ℕ) → removed-filled g list of out ≡ filled (outside-bytes g list of) out
       unfolding removed-filled
       filled-good out = rw (eq-eqb (length list % 32) 0 e, eq-eqb (length of % 32) 0 d)
 
@@ -119,14 +119,14 @@ unfolding FoundIs
 found-in hs n h k e = subst (FoundIs hs n h) e (find-is hs n h) .0
 
 module _ (hs : List ℕ) (n : ℕ) (m h : List ℕ) where
-  pub kept-found : (k : ℕ) → findHash hs n h ≡ At k → eqb (getD m k 0) 0 ≡ kept hs n m h
+  pub kept-found : (k : ℕ) → findHash hs n h ≡ At k → eqb (getD m k 0) 0 ≡ stays hs n m h
   kept-found k e = none (getD m k 0) ∙ sym (ap (unmarked m) e)
     where
       none : (x : ℕ) → eqb x 0 ≡ not (ltb 0 x)
       none zero = refl
       none (suc x) = rw (ne-eqb (suc x) 0 (λ e. absurd (omega arith)), lt-ltb 0 (suc x) (omega arith))
 
-  pub kept-unknown : findHash hs n h ≡ Unknown → true ≡ kept hs n m h
+  pub kept-unknown : findHash hs n h ≡ Unknown → true ≡ stays hs n m h
   kept-unknown e = sym (ap (unmarked m) e)
 
 module _ (hs : List ℕ) (n : ℕ) (m list : List ℕ) (i : ℕ) where
@@ -136,27 +136,27 @@ module _ (hs : List ℕ) (n : ℕ) (m list : List ℕ) (i : ℕ) where
 
   -- it stood before
   pub first-seen : (k : ℕ) → findHash list i (hashAt list i) ≡ At k → false ≡ first-kept hs n m list i
-  first-seen k e = ap (λ (b : Bool). not b && kept hs n m (hashAt list i)) (sym (ap found e) ∙ earlier)
+  first-seen k e = ap (λ (b : Bool). not b && stays hs n m (hashAt list i)) (sym (ap found e) ∙ earlier)
 
   -- it is new
-  pub first-new : findHash list i (hashAt list i) ≡ Unknown → kept hs n m (hashAt list i) ≡ first-kept hs n m list i
-  first-new e = ap (λ (b : Bool). not b && kept hs n m (hashAt list i)) (sym (ap found e) ∙ earlier)
+  pub first-new : findHash list i (hashAt list i) ≡ Unknown → stays hs n m (hashAt list i) ≡ first-kept hs n m list i
+  first-new e = ap (λ (b : Bool). not b && stays hs n m (hashAt list i)) (sym (ap found e) ∙ earlier)
 
 -- ---- the kept hashes as bytes
 
 module _ (hs : List ℕ) (n : ℕ) (m list : List ℕ) where
-  bytes-are : kept-bytes hs n m list ≡ flat (ascending (kept-to (kept hs n m) list (length list / 32)))
+  bytes-are : kept-bytes hs n m list ≡ flat (ascending (kept-to (stays hs n m) list (length list / 32)))
   unfolding kept-bytes hashes-of
   bytes-are = refl
 
   -- 32 for each that is counted
   pub kept-bytes-long : length (kept-bytes hs n m list) ≡ 32 * tally (first-kept hs n m list) (length list / 32)
-  kept-bytes-long = ap length bytes-are ∙ bytes-long (kept hs n m) list (length list / 32) (omega arith)
+  kept-bytes-long = ap length bytes-are ∙ bytes-long (stays hs n m) list (length list / 32) (omega arith)
 
   -- all of them entered
-  module _ {out₀ out : List ℕ} {c i : ℕ} (v : Entering (kept-to (kept hs n m) list i) out₀ out c) (fits : 32 * tally (first-kept hs n m list) (length list / 32) ≤ length out₀) (e : i ≡ length list / 32) where
-    pub entered-told : Done (32 * c) ≡ listed (kept-bytes hs n m list) (length out₀)
-    entered-told = kept-told (kept hs n m) list (length list / 32) (omega arith) v fits e ∙ ap (λ (l : List ℕ). listed l (length out₀)) (sym bytes-are)
+  module _ {out₀ out : List ℕ} {c i : ℕ} (v : Entering (kept-to (stays hs n m) list i) out₀ out c) (fits : 32 * tally (first-kept hs n m list) (length list / 32) ≤ length out₀) (e : i ≡ length list / 32) where
+    pub entered-told : Done (32 * c) ≡ listAnswer (kept-bytes hs n m list) (length out₀)
+    entered-told = kept-told (stays hs n m) list (length list / 32) (omega arith) v fits e ∙ ap (λ (l : List ℕ). listAnswer l (length out₀)) (sym bytes-are)
 
     pub entered-whole : out ≡ filled (kept-bytes hs n m list) out₀
-    entered-whole = kept-whole (kept hs n m) list (length list / 32) (omega arith) v fits e ∙ ap (λ (l : List ℕ). filled l out₀) (sym bytes-are)
+    entered-whole = kept-whole (stays hs n m) list (length list / 32) (omega arith) v fits e ∙ ap (λ (l : List ℕ). filled l out₀) (sym bytes-are)

@@ -10,19 +10,19 @@ use Rattle.hash.specs.Hash.{findHash}
 use Rattle.hash.specs.declared.Found.{Found}
 use Rattle.hash.specs.declared.Found.the-variants.{At, Unknown}
 use Rattle.walk.specs.Marks.{marked}
-use Rattle.answer_buffer.specs.Answers.{whole-list, listed, filled}
+use Rattle.answer_buffer.specs.Answers.{whole-list, listAnswer, filled}
 use Rattle.answer_buffer.specs.declared.Listed.{Listed}
 use Rattle.answer_buffer.specs.declared.Listed.the-variants.{Malformed}
 
 -- the bytes of the paper's list: the hashes of `list` outside the history of those of `of`, ascending, each once
-unfoldable pub removed : Graph → List ℕ → List ℕ → List ℕ
-removed g list of = flat (remove-ancestors g (hashes-of list) (hashes-of of))
+unfoldable pub outside-bytes : Graph → List ℕ → List ℕ → List ℕ
+outside-bytes g list of = flat (remove-ancestors g (hashes-of list) (hashes-of of))
 
 unfoldable pub removed-told : Graph → List ℕ → List ℕ → ℕ → Listed
-removed-told g list of room = cond (whole-list list && whole-list of) (listed (removed g list of) room) Malformed
+removed-told g list of room = cond (whole-list list && whole-list of) (listAnswer (outside-bytes g list of) room) Malformed
 
 unfoldable pub removed-filled : Graph → List ℕ → List ℕ → List ℕ → List ℕ
-removed-filled g list of out = cond (whole-list list && whole-list of) (filled (removed g list of) out) out
+removed-filled g list of out = cond (whole-list list && whole-list of) (filled (outside-bytes g list of) out) out
 
 -- ---- by marks
 
@@ -32,13 +32,13 @@ unmarked m (At k) = not (marked m k)
 unmarked m Unknown = true
 
 -- the hash h is none of the first n, or its node is not marked
-abbrev pub kept : List ℕ → ℕ → List ℕ → List ℕ → Bool
-kept hs n m h = unmarked m (findHash hs n h)
+abbrev pub stays : List ℕ → ℕ → List ℕ → List ℕ → Bool
+stays hs n m h = unmarked m (findHash hs n h)
 
 -- hash i of the list is kept, and is none of those before it
 abbrev pub first-kept : List ℕ → ℕ → List ℕ → List ℕ → ℕ → Bool
-first-kept hs n m list i = not (names (hashAt list i) (hashes-from list i 0)) && kept hs n m (hashAt list i)
+first-kept hs n m list i = not (names (hashAt list i) (hashes-from list i 0)) && stays hs n m (hashAt list i)
 
 -- the bytes of those kept, ascending, each once
 unfoldable pub kept-bytes : List ℕ → ℕ → List ℕ → List ℕ → List ℕ
-kept-bytes hs n m list = flat (ascending (keep (kept hs n m) (hashes-of list)))
+kept-bytes hs n m list = flat (ascending (keep (stays hs n m) (hashes-of list)))

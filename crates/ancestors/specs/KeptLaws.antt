@@ -14,7 +14,7 @@ use Rattle.paper.proofs.Hashes.{same→eq}
 use Rattle.paper.proofs.Ascending.{ascending-long}
 use Rattle.paper.proofs.Count.{tally-wider}
 use Rattle.hash.specs.HashLaws.{hash-length}
-use Rattle.answer_buffer.specs.Answers.{listed, filled}
+use Rattle.answer_buffer.specs.Answers.{listAnswer, filled}
 use Rattle.answer_buffer.specs.SlotLaws.{hashes-split}
 use Rattle.answer_buffer.specs.Entering.{Wide, wide-cons, wide-ascending, flat-long, Entering, entering-start, entering-room, entering-next, entering-told, entering-whole}
 use Rattle.answer_buffer.specs.declared.Listed.the-variants.{Done}
@@ -178,7 +178,7 @@ module _ (p : List ℕ → Bool) (bytes : List ℕ) (m : ℕ) (inside : 32 * m �
     all-fit : 32 * length (ascending (kept-to p bytes m)) ≤ length out₀
     all-fit = let a = kept-long p bytes m in omega arith
 
-    pub kept-told : Done (32 * c) ≡ listed (flat (ascending (kept-to p bytes m))) (length out₀)
+    pub kept-told : Done (32 * c) ≡ listAnswer (flat (ascending (kept-to p bytes m))) (length out₀)
     kept-told = entering-told last (kept-wide p bytes m inside) all-fit
 
     pub kept-whole : out ≡ filled (flat (ascending (kept-to p bytes m))) out₀

@@ -9,16 +9,16 @@ use borrow.Author.Tests.{le-leb, lt-leb, lt-ltb, le-ltb}
 use Rattle.paper.specs.Graph.{Graph}
 use Rattle.paper.specs.Text.{flat}
 use Rattle.list_laws.specs.Over.{over, over-over, over-length, over-none}
-use Rattle.answer_buffer.specs.Answers.{listed, filled, node-hash, node-hash-filled}
+use Rattle.answer_buffer.specs.Answers.{listAnswer, filled, node-hash, node-hash-filled}
 use Rattle.answer_buffer.specs.declared.Listed.{Listed}
 use Rattle.answer_buffer.specs.declared.Listed.the-variants.{Done, Short}
 
-pub listed-done : (l : List ℕ) (room : ℕ) → length l ≤ room → listed l room ≡ Done (length l)
-unfolding listed
+pub listed-done : (l : List ℕ) (room : ℕ) → length l ≤ room → listAnswer l room ≡ Done (length l)
+unfolding listAnswer
 listed-done l room h = rw (le-leb _ _ h)
 
-pub listed-short : (l : List ℕ) (room : ℕ) → room < length l → listed l room ≡ Short
-unfolding listed
+pub listed-short : (l : List ℕ) (room : ℕ) → room < length l → listAnswer l room ≡ Short
+unfolding listAnswer
 listed-short l room h = rw (lt-leb _ _ h)
 
 pub filled-done : (l out : List ℕ) → length l ≤ length out → filled l out ≡ l ++ drop (length l) out
@@ -31,7 +31,7 @@ filled-short l out h = rw (lt-leb _ _ h)
 
 -- a node's hash
 module _ (g : Graph) (k : ℕ) where
-  pub node-told : (refusal : Listed) (room : ℕ) → k < g .size → node-hash g k refusal room ≡ listed (g .hash k) room
+  pub node-told : (refusal : Listed) (room : ℕ) → k < g .size → node-hash g k refusal room ≡ listAnswer (g .hash k) room
   unfolding node-hash
   node-told refusal room l = rw (lt-ltb k (g .size) l)
 
@@ -93,5 +93,5 @@ over-front l out = let e : 0 + length l ≡ length l = omega arith in rw e
 pub holds-whole : {l out₀ out : List ℕ} {c : ℕ} → Holds l out₀ out c → length l ≤ length out₀ → out ≡ filled l out₀
 holds-whole {l} {out₀} h fits = h .same ∙ over-front l out₀ ∙ sym (filled-done l out₀ fits)
 
-pub holds-told : {l out₀ out : List ℕ} {c : ℕ} → Holds l out₀ out c → length l ≤ length out₀ → Done c ≡ listed l (length out₀)
+pub holds-told : {l out₀ out : List ℕ} {c : ℕ} → Holds l out₀ out c → length l ≤ length out₀ → Done c ≡ listAnswer l (length out₀)
 holds-told {l} {out₀} h fits = ap Done (h .long) ∙ sym (listed-done l (length out₀) fits)

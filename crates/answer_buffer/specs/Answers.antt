@@ -9,8 +9,8 @@ use Rattle.paper.specs.Numbers.{number, done, malformed, not-found, no-owner, s
 use Rattle.paper.specs.Graph.{Graph}
 use Rattle.answer_buffer.specs.declared.Place.{Place}
 use Rattle.answer_buffer.specs.declared.Place.the-variants.{At, Malformed as NoPlace, NotFound as Nowhere}
-use Rattle.answer_buffer.specs.declared.Told.{Told}
-use Rattle.answer_buffer.specs.declared.Told.the-variants.{Yes, No, Malformed as Untold}
+use Rattle.answer_buffer.specs.declared.YesNo.{YesNo}
+use Rattle.answer_buffer.specs.declared.YesNo.the-variants.{Yes, No, Malformed as Untold}
 use Rattle.answer_buffer.specs.declared.Listed.{Listed}
 use Rattle.answer_buffer.specs.declared.Listed.the-variants.{Done, Malformed, NotFound, NoOwner, Short}
 
@@ -19,10 +19,10 @@ placeNumber (At k) = number done
 placeNumber NoPlace = number malformed
 placeNumber Nowhere = number not-found
 
-abbrev pub toldNumber : Told → ℕ
-toldNumber Yes = number done
-toldNumber No = number done
-toldNumber Untold = number malformed
+abbrev pub yesNoNumber : YesNo → ℕ
+yesNoNumber Yes = number done
+yesNoNumber No = number done
+yesNoNumber Untold = number malformed
 
 abbrev pub listedNumber : Listed → ℕ
 listedNumber (Done n) = number done
@@ -32,8 +32,8 @@ listedNumber NoOwner = number no-owner
 listedNumber Short = number short-buffer
 
 -- the answer for a list that goes into a buffer of `room` elements: 15 exactly where it is shorter than the list
-unfoldable pub listed : List ℕ → ℕ → Listed
-listed l room = cond (leb (length l) room) (Done (length l)) Short
+unfoldable pub listAnswer : List ℕ → ℕ → Listed
+listAnswer l room = cond (leb (length l) room) (Done (length l)) Short
 
 -- the buffer afterwards: the list and what lay past it, or, where it does not fit, as it was
 unfoldable pub filled : List ℕ → List ℕ → List ℕ
@@ -48,7 +48,7 @@ whole-list bytes = eqb (length bytes % 32) 0
 
 -- the hash of node k as an answer, and the buffer afterwards; where k is no node, the refusal
 unfoldable pub node-hash : Graph → ℕ → Listed → ℕ → Listed
-node-hash g k refusal room = cond (ltb k (g .size)) (listed (g .hash k) room) refusal
+node-hash g k refusal room = cond (ltb k (g .size)) (listAnswer (g .hash k) room) refusal
 
 unfoldable pub node-hash-filled : Graph → ℕ → List ℕ → List ℕ
 node-hash-filled g k out = cond (ltb k (g .size)) (filled (g .hash k) out) out

@@ -14,7 +14,7 @@ use Rattle.paper.specs.Text.{flat}
 use Rattle.paper.proofs.Bools.{and-both, and-fst, and-snd}
 use Rattle.paper.proofs.Hashes.{every-of, of-every}
 use Rattle.paper.proofs.Ascending.{ascending-names, ascending-grows}
-use Rattle.answer_buffer.specs.Answers.{listed, filled}
+use Rattle.answer_buffer.specs.Answers.{listAnswer, filled}
 use Rattle.answer_buffer.specs.AnswerLaws.{listed-done, filled-done}
 use Rattle.answer_buffer.specs.declared.Listed.the-variants.{Done}
 
@@ -100,7 +100,7 @@ module _ {l : List (List ℕ)} {out₀ out : List ℕ} {c : ℕ} (v : Entering l
     bytes : length (flat (ascending l)) ≡ 32 * length (ascending l)
     bytes = flat-long (ascending l) (wide-ascending l w)
 
-    pub entering-told : Done (32 * c) ≡ listed (flat (ascending l)) (length out₀)
+    pub entering-told : Done (32 * c) ≡ listAnswer (flat (ascending l)) (length out₀)
     entering-told = ap Done (let n = v .long in let b = bytes in omega arith) ∙ sym (listed-done (flat (ascending l)) (length out₀) (let b = bytes in omega arith))
 
     pub entering-whole : out ≡ filled (flat (ascending l)) out₀

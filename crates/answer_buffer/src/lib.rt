@@ -6,7 +6,7 @@ ghost use lib.ListN.{length, drop};
 ghost use Rattle.paper.specs.Lists.{hashAt, hashes-from, enter};
 ghost use Rattle.paper.specs.Text.{flat};
 ghost use Rattle.list_laws.specs.Over.{over};
-ghost use Rattle.answer_buffer.specs.Answers.{placeNumber, toldNumber, listedNumber, listed, filled};
+ghost use Rattle.answer_buffer.specs.Answers.{placeNumber, yesNoNumber, listedNumber, listAnswer, filled};
 ghost use Rattle.answer_buffer.specs.Slots.{orderOf, slot, shifted};
 
 // A node's number, or why there is none.
@@ -17,7 +17,7 @@ pub enum Place {
 }
 
 // Yes or no.
-pub enum Told {
+pub enum YesNo {
     Yes,
     No,
     Malformed,
@@ -57,13 +57,13 @@ pub fn place_number(p: Place) -> u32
 }
 
 // The paper's number.
-pub fn told_number(t: Told) -> u32
-    ensures { λ r. ⌜ r ≡ toldNumber t ⌝ }
+pub fn told_number(t: YesNo) -> u32
+    ensures { λ r. ⌜ r ≡ yesNoNumber t ⌝ }
 {
     match t {
-        Told::Yes => 0,
-        Told::No => 0,
-        Told::Malformed => 2,
+        YesNo::Yes => 0,
+        YesNo::No => 0,
+        YesNo::Malformed => 2,
     }
 }
 
@@ -96,7 +96,7 @@ pub fn put_hash(out: &mut [u8], at: usize, hashes: &[u8], k: usize)
 // Hash k of the table as an answer. Where the buffer is too short nothing is written.
 pub fn hash_into(hashes: &[u8], k: usize, out: &mut [u8]) -> Listed
     requires { ⌜ 32 * k + 32 ≤ length (now hashes) ⌝ }
-    ensures { λ r. ⌜ r ≡ listed (hashAt (now (hashes .entry)) k) (length (now (out .entry))) ⌝ }
+    ensures { λ r. ⌜ r ≡ listAnswer (hashAt (now (hashes .entry)) k) (length (now (out .entry))) ⌝ }
     ensures { λ _. ⌜ now (out .exit) ≡ filled (hashAt (now (hashes .entry)) k) (now (out .entry)) ⌝ }
 {
     if out.len() < 32 {

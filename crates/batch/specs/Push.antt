@@ -14,22 +14,22 @@ use Rattle.batch.specs.declared.Pushed.{Pushed}
 use Rattle.batch.specs.declared.Pushed.the-variants.{Done, NotValid, Malformed, InBatch, Waits, TooMany, Full}
 
 -- the paper's numbers
-abbrev pub numberOf : Pushed → ℕ
-numberOf Done = number done
-numberOf NotValid = number not-valid
-numberOf Malformed = number malformed
-numberOf InBatch = number already-known
-numberOf Waits = number already-waiting
-numberOf TooMany = number many-dependencies
-numberOf Full = number no-queue-room
+abbrev pub pushedNumber : Pushed → ℕ
+pushedNumber Done = number done
+pushedNumber NotValid = number not-valid
+pushedNumber Malformed = number malformed
+pushedNumber InBatch = number already-known
+pushedNumber Waits = number already-waiting
+pushedNumber TooMany = number many-dependencies
+pushedNumber Full = number no-queue-room
 
 -- the hash is not of 32 bytes, or the list no multiple of 32
 unfoldable pub isMalformed : List ℕ → List ℕ → Bool
 isMalformed h needs = not (eqb (length h) 32) || not (eqb (length needs % 32) 0)
 
 -- what a push to a valid batch answers: each in its turn, where none before it is given
-unfoldable pub judged : List ℕ → List ℕ → List ℕ → List ℕ → ℕ → ℕ → List ℕ → Pushed
-judged hs ns cs h key seq needs =
+unfoldable pub pushJudged : List ℕ → List ℕ → List ℕ → List ℕ → ℕ → ℕ → List ℕ → Pushed
+pushJudged hs ns cs h key seq needs =
     cond (isMalformed h needs) Malformed
     (cond (knownIn hs (waiting cs) h) InBatch
     (cond (hasActorSeq ns (waiting cs) key seq) Waits
@@ -51,7 +51,7 @@ pub record Placeable (hs ns ds cs h needs : List ℕ) : Type 0 where
   pub few : length needs ≤ 1024
 
 -- the change stands after the others
-pub record Placed (hs ns ds cs h : List ℕ) (key seq top ops : ℕ) (needs hs′ ns′ ds′ cs′ : List ℕ) : Type 0 where
+pub record StandsLast (hs ns ds cs h : List ℕ) (key seq top ops : ℕ) (needs hs′ ns′ ds′ cs′ : List ℕ) : Type 0 where
   pub hashes : hs′ ≡ over hs (32 * waiting cs) h
   pub numbers : ns′ ≡ over ns (5 * waiting cs) (key ∷ seq ∷ top ∷ ops ∷ (length needs / 32) ∷ [])
   pub deps : ds′ ≡ over ds (1024 * waiting cs) needs
@@ -59,7 +59,7 @@ pub record Placed (hs ns ds cs h : List ℕ) (key seq top ops : ℕ) (needs hs�
 
 -- on 0 the change stands after the others, on every other number nothing changed
 unfoldable pub PushedTo : Pushed → List ℕ → List ℕ → List ℕ → List ℕ → List ℕ → ℕ → ℕ → ℕ → ℕ → List ℕ → List ℕ → List ℕ → List ℕ → List ℕ → Type 0
-PushedTo Done hs ns ds cs h key seq top ops needs hs′ ns′ ds′ cs′ = Placed hs ns ds cs h key seq top ops needs hs′ ns′ ds′ cs′
+PushedTo Done hs ns ds cs h key seq top ops needs hs′ ns′ ds′ cs′ = StandsLast hs ns ds cs h key seq top ops needs hs′ ns′ ds′ cs′
 PushedTo NotValid hs ns ds cs h key seq top ops needs hs′ ns′ ds′ cs′ = Same hs ns ds cs hs′ ns′ ds′ cs′
 PushedTo Malformed hs ns ds cs h key seq top ops needs hs′ ns′ ds′ cs′ = Same hs ns ds cs hs′ ns′ ds′ cs′
 PushedTo InBatch hs ns ds cs h key seq top ops needs hs′ ns′ ds′ cs′ = Same hs ns ds cs hs′ ns′ ds′ cs′

@@ -13,9 +13,9 @@ use Rattle.paper.proofs.Bools.{by-bool, not-both}
 use Rattle.ready.specs.Tables.{knownIn}
 use Rattle.records.specs.Records.{Rooms}
 use Rattle.records.specs.RecordLaws.{rooms-less}
-use Rattle.waiting.specs.Valid.{room, waiting, hasActorSeq, Valid}
+use Rattle.waiting.specs.Valid.{room, waiting, hasActorSeq, StoreValid}
 use Rattle.waiting.specs.ValidLaws.{sized-rooms}
-use Rattle.batch.specs.Push.{isMalformed, judged, Counted, Placeable}
+use Rattle.batch.specs.Push.{isMalformed, pushJudged, Counted, Placeable}
 use Rattle.batch.specs.declared.Pushed.{Pushed}
 use Rattle.batch.specs.declared.Pushed.the-variants.{Done, Malformed, InBatch, Waits, TooMany, Full}
 
@@ -24,7 +24,7 @@ pub whole-part : (h : List ℕ) (n : ℕ) → length h ≡ n → part h 0 n ≡ 
 unfolding part
 whole-part h n e = rw (← e) (take-length h)
 
-pub valid-counted : {hs ns ds cs : List ℕ} → Valid hs ns ds cs → Counted hs ns cs
+pub valid-counted : {hs ns ds cs : List ℕ} → StoreValid hs ns ds cs → Counted hs ns cs
 valid-counted v =
     let s = v .sized in
     record { one-count = s .laid .one-count; in-hashes = omega (arith, s .laid .hashes-whole, s .within); in-numbers = omega (arith, s .laid .numbers-agree, s .within) }
@@ -52,8 +52,8 @@ whole h needs e =
     (λ t. by-bool (eqb (length needs % 32) 0) (λ u. (eqb-true (length h) 32 t, eqb-true (length needs % 32) 0 u)) (λ u. not-both (sym (rw (t, u) at e)) refl))
     (λ f. not-both (sym (rw f at e)) refl)
 
-pub done-fine : (hs ns cs h : List ℕ) (key seq : ℕ) (needs : List ℕ) → judged hs ns cs h key seq needs ≡ Done → Fine hs ns cs h key seq needs
-unfolding judged
+pub done-fine : (hs ns cs h : List ℕ) (key seq : ℕ) (needs : List ℕ) → pushJudged hs ns cs h key seq needs ≡ Done → Fine hs ns cs h key seq needs
+unfolding pushJudged
 done-fine hs ns cs h key seq needs e =
     let a = refused (isMalformed h needs) _ _ (λ w. let z : _≡_ {A = ℕ} 0 1 = cc in omega arith) e in
     let b = refused (knownIn hs (waiting cs) h) _ _ (λ w. let z : _≡_ {A = ℕ} 0 1 = cc in omega arith) (a .1) in
@@ -70,7 +70,7 @@ done-fine hs ns cs h key seq needs e =
       space = leb-false (room hs) (waiting cs) (f .0);
     }
 
-pub fine-placeable : {hs ns ds cs h : List ℕ} {key seq : ℕ} {needs : List ℕ} → Valid hs ns ds cs → Fine hs ns cs h key seq needs → Placeable hs ns ds cs h needs
+pub fine-placeable : {hs ns ds cs h : List ℕ} {key seq : ℕ} {needs : List ℕ} → StoreValid hs ns ds cs → Fine hs ns cs h key seq needs → Placeable hs ns ds cs h needs
 fine-placeable {hs} {ns} {ds} {cs} v f =
     record {
       one-count = v .sized .laid .one-count;

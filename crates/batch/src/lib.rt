@@ -7,8 +7,8 @@ use waiting::valid;
 ghost use mathlib.Core.Path.{_≡_};
 ghost use Prim.Native.Nat.{ℕ, _+_, _*_, _≤_, _<_};
 ghost use lib.ListN.{length, getD};
-ghost use Rattle.waiting.specs.Valid.{Valid, Checked};
-ghost use Rattle.batch.specs.Push.{isMalformed, Counted, judged, Placeable, Placed, PushedTo};
+ghost use Rattle.waiting.specs.Valid.{StoreValid, HeldOrNot};
+ghost use Rattle.batch.specs.Push.{isMalformed, Counted, pushJudged, Placeable, StandsLast, PushedTo};
 
 // What a push answers.
 pub enum Pushed {
@@ -42,7 +42,7 @@ pub fn judge_push(
     needs: &[u8],
 ) -> Pushed
     requires { ⌜ Counted (now hashes) (now numbers) (now count) ⌝ }
-    ensures { λ r. ⌜ r ≡ judged (now (hashes .entry)) (now (numbers .entry)) (now (count .entry)) (now (hash .entry)) key seq (now (needs .entry)) ⌝ }
+    ensures { λ r. ⌜ r ≡ pushJudged (now (hashes .entry)) (now (numbers .entry)) (now (count .entry)) (now (hash .entry)) key seq (now (needs .entry)) ⌝ }
 {
     if malformed(hash, needs) {
         return Pushed::Malformed;
@@ -77,7 +77,7 @@ fn place(
     needs: &[u8],
 )
     requires { ⌜ Placeable (now hashes) (now numbers) (now deps) (now count) (now hash) (now needs) ⌝ }
-    ensures { λ r. ⌜ Placed (now (hashes .entry)) (now (numbers .entry)) (now (deps .entry)) (now (count .entry)) (now (hash .entry)) key seq top ops (now (needs .entry)) (now (hashes .exit)) (now (numbers .exit)) (now (deps .exit)) (now (count .exit)) ⌝ }
+    ensures { λ r. ⌜ StandsLast (now (hashes .entry)) (now (numbers .entry)) (now (deps .entry)) (now (count .entry)) (now (hash .entry)) key seq top ops (now (needs .entry)) (now (hashes .exit)) (now (numbers .exit)) (now (deps .exit)) (now (count .exit)) ⌝ }
 {
     let n = count[0] as usize;
     copy(hashes, 32 * n, hash, 0, 32);
@@ -99,8 +99,8 @@ pub fn take_in(
     ops: u64,
     needs: &[u8],
 ) -> Pushed
-    requires { ⌜ Valid (now hashes) (now numbers) (now deps) (now count) ⌝ }
-    ensures { λ r. ⌜ r ≡ judged (now (hashes .entry)) (now (numbers .entry)) (now (count .entry)) (now (hash .entry)) key seq (now (needs .entry)) ⌝ }
+    requires { ⌜ StoreValid (now hashes) (now numbers) (now deps) (now count) ⌝ }
+    ensures { λ r. ⌜ r ≡ pushJudged (now (hashes .entry)) (now (numbers .entry)) (now (count .entry)) (now (hash .entry)) key seq (now (needs .entry)) ⌝ }
     ensures { λ r. ⌜ PushedTo r (now (hashes .entry)) (now (numbers .entry)) (now (deps .entry)) (now (count .entry)) (now (hash .entry)) key seq top ops (now (needs .entry)) (now (hashes .exit)) (now (numbers .exit)) (now (deps .exit)) (now (count .exit)) ⌝ }
 {
     let answer = judge_push(hashes, numbers, count, hash, key, seq, needs);
@@ -142,7 +142,7 @@ pub fn push(
     ops: u64,
     needs: &[u8],
 ) -> Pushed
-    ensures { λ r. ⌜ Checked (Valid (now (hashes .entry)) (now (numbers .entry)) (now (deps .entry)) (now (count .entry))) (r ≡ judged (now (hashes .entry)) (now (numbers .entry)) (now (count .entry)) (now (hash .entry)) key seq (now (needs .entry))) (r ≡ Pushed.NotValid) ⌝ }
+    ensures { λ r. ⌜ HeldOrNot (StoreValid (now (hashes .entry)) (now (numbers .entry)) (now (deps .entry)) (now (count .entry))) (r ≡ pushJudged (now (hashes .entry)) (now (numbers .entry)) (now (count .entry)) (now (hash .entry)) key seq (now (needs .entry))) (r ≡ Pushed.NotValid) ⌝ }
     ensures { λ r. ⌜ PushedTo r (now (hashes .entry)) (now (numbers .entry)) (now (deps .entry)) (now (count .entry)) (now (hash .entry)) key seq top ops (now (needs .entry)) (now (hashes .exit)) (now (numbers .exit)) (now (deps .exit)) (now (count .exit)) ⌝ }
 {
     if !valid(hashes, numbers, deps, count) {

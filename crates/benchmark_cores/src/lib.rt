@@ -6,9 +6,9 @@ ghost use lib.ListN.{length};
 ghost use Rattle.paper.specs.Graph.{owner};
 ghost use Rattle.tables.specs.Tables.{tables, graph};
 ghost use Rattle.tables.specs.Valid.{Valid};
-ghost use Rattle.judge.specs.Judge.{change, judged, numberOf};
-ghost use Rattle.graph.specs.Place.{added};
-ghost use Rattle.answer_buffer.specs.Answers.{listedNumber, listed, filled, node-hash, node-hash-filled};
+ghost use Rattle.judge.specs.Judge.{change, tablesJudged, judgedNumber};
+ghost use Rattle.graph.specs.Place.{addedTables};
+ghost use Rattle.answer_buffer.specs.Answers.{listedNumber, listAnswer, filled, node-hash, node-hash-filled};
 ghost use Rattle.answer_buffer.specs.declared.Listed.the-variants.{NoOwner};
 ghost use Rattle.heads.specs.Heads.{head-hashes};
 ghost use Rattle.list_clock.specs.Clocks.{clock-told, clock-filled};
@@ -31,8 +31,8 @@ pub extern "C" fn bare_add(
     deps: &[u8],
 ) -> u32
     requires { ⌜ Valid (tables (now hashes) (now nodes) (now targets) (now nexts) (now clocks) (now counts)) ⌝ }
-    ensures { λ r. ⌜ r ≡ numberOf (judged (tables (now (hashes .entry)) (now (nodes .entry)) (now (targets .entry)) (now (nexts .entry)) (now (clocks .entry)) (now (counts .entry))) (change (now (hash .entry)) actor seq max ops (now (deps .entry)))) ⌝ }
-    ensures { λ _. ⌜ tables (now (hashes .exit)) (now (nodes .exit)) (now (targets .exit)) (now (nexts .exit)) (now (clocks .exit)) (now (counts .exit)) ≡ added (tables (now (hashes .entry)) (now (nodes .entry)) (now (targets .entry)) (now (nexts .entry)) (now (clocks .entry)) (now (counts .entry))) (change (now (hash .entry)) actor seq max ops (now (deps .entry))) ⌝ }
+    ensures { λ r. ⌜ r ≡ judgedNumber (tablesJudged (tables (now (hashes .entry)) (now (nodes .entry)) (now (targets .entry)) (now (nexts .entry)) (now (clocks .entry)) (now (counts .entry))) (change (now (hash .entry)) actor seq max ops (now (deps .entry)))) ⌝ }
+    ensures { λ _. ⌜ tables (now (hashes .exit)) (now (nodes .exit)) (now (targets .exit)) (now (nexts .exit)) (now (clocks .exit)) (now (counts .exit)) ≡ addedTables (tables (now (hashes .entry)) (now (nodes .entry)) (now (targets .entry)) (now (nexts .entry)) (now (clocks .entry)) (now (counts .entry))) (change (now (hash .entry)) actor seq max ops (now (deps .entry))) ⌝ }
 {
     let j = graph::add(
         hashes,
@@ -143,7 +143,7 @@ pub extern "C" fn bare_heads(
     out: &mut [u8],
 ) -> u32
     requires { ⌜ Valid (tables (now hashes) (now nodes) (now targets) (now nexts) (now clocks) (now counts)) ⌝ }
-    ensures { λ r. ⌜ r ≡ listedNumber (listed (head-hashes (graph (tables (now (hashes .entry)) (now (nodes .entry)) (now (targets .entry)) (now (nexts .entry)) (now (clocks .entry)) (now (counts .entry))))) (length (now (out .entry)))) ⌝ }
+    ensures { λ r. ⌜ r ≡ listedNumber (listAnswer (head-hashes (graph (tables (now (hashes .entry)) (now (nodes .entry)) (now (targets .entry)) (now (nexts .entry)) (now (clocks .entry)) (now (counts .entry))))) (length (now (out .entry)))) ⌝ }
     ensures { λ _. ⌜ now (out .exit) ≡ filled (head-hashes (graph (tables (now (hashes .entry)) (now (nodes .entry)) (now (targets .entry)) (now (nexts .entry)) (now (clocks .entry)) (now (counts .entry))))) (now (out .entry)) ⌝ }
 {
     let l = heads::heads(hashes, nodes, targets, nexts, clocks, counts, out);

@@ -13,8 +13,8 @@ use Rattle.ready.specs.Tables.{queueOf, depCount, DepsHeld}
 use Rattle.paper.specs.Numbers.{number, done, not-valid}
 use Rattle.waiting.specs.Valid.{waiting, Same}
 use Rattle.waiting.specs.Taken.{TakenOut}
-use Rattle.branch.specs.declared.Removed.{Removed}
-use Rattle.branch.specs.declared.Removed.the-variants.{Done, NotValid}
+use Rattle.branch.specs.declared.BranchDropped.{BranchDropped}
+use Rattle.branch.specs.declared.BranchDropped.the-variants.{Done, NotValid}
 
 -- record i is the actor's, at or after the sequence
 abbrev pub onBranch : List ℕ → ℕ → ℕ → ℕ → Bool
@@ -60,11 +60,11 @@ unfoldable pub keptOf : List ℕ → List ℕ → List ℕ → List ℕ → ℕ 
 keptOf hs ns ds cs key from = kept (queueOf hs ns ds (waiting cs)) key from
 
 -- the paper's numbers
-abbrev pub numberOf : Removed → ℕ
-numberOf Done = number done
-numberOf NotValid = number not-valid
+abbrev pub branchNumber : BranchDropped → ℕ
+branchNumber Done = number done
+branchNumber NotValid = number not-valid
 
 -- on 0 the kept ones stand in the queue, on 1 nothing changed
-unfoldable pub RemovedTo : Removed → List ℕ → List ℕ → List ℕ → List ℕ → ℕ → ℕ → List ℕ → List ℕ → List ℕ → List ℕ → Type 0
+unfoldable pub RemovedTo : BranchDropped → List ℕ → List ℕ → List ℕ → List ℕ → ℕ → ℕ → List ℕ → List ℕ → List ℕ → List ℕ → Type 0
 RemovedTo Done hs ns ds cs key from hs′ ns′ ds′ cs′ = TakenOut hs ns ds cs (keptOf hs ns ds cs key from) hs′ ns′ ds′ cs′
 RemovedTo NotValid hs ns ds cs key from hs′ ns′ ds′ cs′ = Same hs ns ds cs hs′ ns′ ds′ cs′

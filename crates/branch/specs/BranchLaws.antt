@@ -17,7 +17,7 @@ use Rattle.paper.specs.Lists.{hashAt, hashes-from}
 use Rattle.ready.specs.Tables.{queueOf}
 use Rattle.branch.specs.Branch.{PutAfter, onBranch, dependsOn, newChild, Spreading, DropList, Droppable, keptOf}
 use Rattle.records.specs.Records.{unlisted}
-use Rattle.waiting.specs.Valid.{waiting, Valid}
+use Rattle.waiting.specs.Valid.{waiting, StoreValid}
 use Rattle.waiting.specs.ValidLaws.{valid-rooms, valid-small}
 use Rattle.waiting.specs.Taken.{TakenOut}
 
@@ -150,7 +150,7 @@ unfolding keptOf kept
 dropped-out {hs} {ns} {ds} cs {hs′ = hs′} {ns′ = ns′} {ds′ = ds′} {cs′ = cs′} d t =
     subst (λ (l : List ℕ). TakenOut hs ns ds cs (pick (λ i. not (mem i l)) (waiting cs)) hs′ ns′ ds′ cs′) (d .listed) t
 
-pub valid-droppable : {hs ns ds : List ℕ} (cs : List ℕ) (list : List ℕ) → Valid hs ns ds cs → 256 ≤ length list → Droppable hs ns ds (waiting cs) list
+pub valid-droppable : {hs ns ds : List ℕ} (cs : List ℕ) (list : List ℕ) → StoreValid hs ns ds cs → 256 ≤ length list → Droppable hs ns ds (waiting cs) list
 valid-droppable cs list v l =
     let r = valid-rooms v in
     record {

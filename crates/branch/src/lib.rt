@@ -13,11 +13,11 @@ ghost use Rattle.paper.specs.Lists.{names, mem, tally};
 ghost use Rattle.paper.specs.Lists.{hashAt, hashes-from};
 ghost use Rattle.ready.specs.Tables.{depCount, DepsHeld};
 ghost use Rattle.branch.specs.Branch.{onBranch, newChild, PutAfter, Droppable, DropList, keptOf, RemovedTo};
-ghost use Rattle.waiting.specs.Valid.{Valid, Checked};
+ghost use Rattle.waiting.specs.Valid.{StoreValid, HeldOrNot};
 ghost use Rattle.waiting.specs.Taken.{TakenOut};
 
 // What dropping a branch answers.
-pub enum Removed {
+pub enum BranchDropped {
     Done,
     NotValid,
 }
@@ -145,7 +145,7 @@ pub fn drop_branch(
     key: u64,
     from: u64,
 )
-    requires { ⌜ Valid (now hashes) (now numbers) (now deps) (now count) ⌝ }
+    requires { ⌜ StoreValid (now hashes) (now numbers) (now deps) (now count) ⌝ }
     ensures { λ r. ⌜ TakenOut (now (hashes .entry)) (now (numbers .entry)) (now (deps .entry)) (now (count .entry)) (keptOf (now (hashes .entry)) (now (numbers .entry)) (now (deps .entry)) (now (count .entry)) key from) (now (hashes .exit)) (now (numbers .exit)) (now (deps .exit)) (now (count .exit)) ⌝ }
 {
     let n = count[0] as usize;
@@ -164,13 +164,13 @@ pub fn remove_actor_branch_from(
     count: &mut [u32],
     key: u64,
     from: u64,
-) -> Removed
-    ensures { λ r. ⌜ Checked (Valid (now (hashes .entry)) (now (numbers .entry)) (now (deps .entry)) (now (count .entry))) (r ≡ Removed.Done) (r ≡ Removed.NotValid) ⌝ }
+) -> BranchDropped
+    ensures { λ r. ⌜ HeldOrNot (StoreValid (now (hashes .entry)) (now (numbers .entry)) (now (deps .entry)) (now (count .entry))) (r ≡ Removed.Done) (r ≡ Removed.NotValid) ⌝ }
     ensures { λ r. ⌜ RemovedTo r (now (hashes .entry)) (now (numbers .entry)) (now (deps .entry)) (now (count .entry)) key from (now (hashes .exit)) (now (numbers .exit)) (now (deps .exit)) (now (count .exit)) ⌝ }
 {
     if !valid(hashes, numbers, deps, count) {
-        return Removed::NotValid;
+        return BranchDropped::NotValid;
     }
     drop_branch(hashes, numbers, deps, count, key, from);
-    Removed::Done
+    BranchDropped::Done
 }

@@ -14,7 +14,7 @@ use Rattle.paper.specs.Caching.{left-over, in-turn, cached-to, cached-after}
 use Rattle.tables.specs.Tables.{Tables, changes, actorRoom, entryAt, graph}
 use Rattle.tables.specs.Valid.{Sound}
 use Rattle.walk.specs.Marks.{marked}
-use Rattle.walk.specs.Rows.{cached, Right, Walkable}
+use Rattle.walk.specs.Rows.{cached, RowsRight, Walkable}
 
 -- the clock table with the clocks of the nodes in use that s has: entry i is entry i % width of row i / width. The other entries stay
 unfoldable pub recached : Tables → (ℕ → Bool) → List ℕ
@@ -44,7 +44,7 @@ pub record Cachable (t : Tables) (width k : ℕ) (marks : List ℕ) : Type 0 whe
   pub sound : Sound t
   pub wide : width ≡ actorRoom t
   pub inside : k < changes t
-  pub rows : (j : ℕ) → j < suc k → Right t j
+  pub rows : (j : ℕ) → j < suc k → RowsRight t j
   pub room : k < length marks
   pub clean : (j : ℕ) → j < suc k → getD marks j 0 ≡ 0
 
@@ -68,7 +68,7 @@ pub record Halfway (t : Tables) (width k : ℕ) (marks : List ℕ) : Type 0 wher
   pub sound : Sound t
   pub wide : width ≡ actorRoom t
   pub inside : k < changes t
-  pub rows : (j : ℕ) → j < k → Right t j
+  pub rows : (j : ℕ) → j < k → RowsRight t j
   pub room : k < length marks
   pub half : (a : ℕ) → a < actorRoom t → max (entryAt t k a) (front (graph t) (marked marks) k a) ≡ clock (graph t) (k ∷ []) a
 
@@ -107,5 +107,5 @@ pub record NodeClocked (t : Tables) (k n : ℕ) (marks clock′ marks′ : List 
 
 -- whether row k is right; the marks are as they were
 pub record RowChecked (t : Tables) (k : ℕ) (r : Bool) (marks marks′ : List ℕ) : Type 0 where
-  pub answer : (r ≡ true) ↔ Right t k
+  pub answer : (r ≡ true) ↔ RowsRight t k
   pub marks-back : marks′ ≡ marks

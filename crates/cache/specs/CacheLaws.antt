@@ -13,7 +13,7 @@ use lib.Seq.{getD-set-same, getD-set-other, ext-getD, getD-drop, drop-paste, pas
 use borrow.Author.Tests.{eqb-true, eqb-false, eq-eqb, ne-eqb, ltb-true, ltb-false, lt-ltb, le-ltb}
 use Rattle.list_laws.specs.Paste.{paste-long, paste-low, paste-in}
 use Rattle.paper.specs.Lists.{mem, pick}
-use Rattle.paper.specs.Graph.{Graph, clock, Valid as ValidGraph}
+use Rattle.paper.specs.Graph.{Graph, clock, ValidGraph as ValidGraph}
 use Rattle.paper.specs.ProofWords.{front}
 use Rattle.paper.specs.Caching.{left-over, in-turn, cached-to, cached-after}
 use Rattle.paper.proofs.Bools.{by-bool, not-both, to-false, below-or-not, mem-nil, mem-single, mem-here, mem-pick, pick-mem}
@@ -23,7 +23,7 @@ use Rattle.tables.specs.Tables.{Tables, changes, actorRoom, actorAt, entryAt, g
 use Rattle.tables.specs.Valid.{Sound}
 use Rattle.tables.specs.DepsLaws.{valid-graph}
 use Rattle.walk.specs.Marks.{marked}
-use Rattle.walk.specs.Rows.{cached, Right, Walkable}
+use Rattle.walk.specs.Rows.{cached, RowsRight, Walkable}
 use Rattle.walk.specs.RowLaws.{row-fits, node-fits, own-room}
 use Rattle.walk.specs.Walk.{WalkDone}
 use Rattle.walk.specs.WalkLaws.{front-none}
@@ -33,7 +33,7 @@ use Rattle.cache.specs.RowLaws.{with-clocks, rows-apart, row-end, same-w
 -- ---- a node that is cached already
 
 pub already : (t : Tables) (width k : ℕ) (marks : List ℕ) → Cachable t width k marks → cached t k ≡ true → RowsTo t (cached-after (graph t) (cached t) k) (suc k) (t .clocks)
-unfolding Right
+unfolding RowsRight
 already t width k marks v e = record {
   long = refl;
   rows = λ j a l h. v .rows j l a h ∙ ap (λ (b : Bool). cond b (clock (graph t) (j ∷ []) a) 0) (sym (cached-again (graph t) (cached t) k j e));
@@ -120,7 +120,7 @@ module _ (t : Tables) (width k : ℕ) (marks : List ℕ) (v : Cachable t width k
 
     -- the rows below k are as they were
     old-row : (j a : ℕ) → j < k → a < actorRoom t → getD cs (j * actorRoom t + a) 0 ≡ cond (cached t j) (clock (graph t) (j ∷ []) a) 0
-    unfolding Right
+    unfolding RowsRight
     old-row j a l h = b .before (j * actorRoom t + a) (let z = rows-apart j k (actorRoom t) l in omega arith) ∙ v .rows j (omega arith) a h
 
     old-cached : (j : ℕ) → j < k → cached (with-clocks t cs) j ≡ cached t j

@@ -13,7 +13,7 @@ use lib.Seq.{ext-getD, length-take-le}
 use borrow.Author.Tests.{lt-ltb, le-ltb, ltb-false}
 use Rattle.list_laws.specs.Iff.{same-answer, Below}
 use Rattle.paper.specs.Lists.{mem, each-below}
-use Rattle.paper.specs.Graph.{Graph, own, clock, Valid as ValidGraph}
+use Rattle.paper.specs.Graph.{Graph, own, clock, ValidGraph as ValidGraph}
 use Rattle.paper.specs.ProofWords.{front}
 use Rattle.paper.proofs.Bools.{by-bool, to-false, below-or-not}
 use Rattle.paper.proofs.Clock.{clock-node}
@@ -24,7 +24,7 @@ use Rattle.tables.specs.Valid.{Sound, Rows, Valid}
 use Rattle.tables.specs.DepsLaws.{valid-graph}
 use Rattle.walk.specs.Marks.{marked, MarkedBy}
 use Rattle.walk.specs.MarkLaws.{marked-by}
-use Rattle.walk.specs.Rows.{cached, Right, Walkable}
+use Rattle.walk.specs.Rows.{cached, RowsRight, Walkable}
 use Rattle.walk.specs.RowLaws.{row-fits, node-fits, actor-low, rows-right, right-rows, changes-few}
 use Rattle.walk.specs.Walk.{WalkDone}
 use Rattle.walk.specs.WalkLaws.{front-none, included, all-clean, all-walked}
@@ -87,8 +87,8 @@ module _ (t : Tables) (width n k : ℕ) (marks : List ℕ) (v : Checkable t widt
       }
 
   -- a row that is cached is right exactly if it is the clock
-  pub right-cached : (r : Bool) (clock′ : List ℕ) → width ≡ n → ltb 0 (getD (t .clocks) (k * width + actorAt (t .nodes) k) 0) ≡ true → clock′ ≡ each-below (clock (graph t) (k ∷ [])) n → (r ≡ true) ↔ RowIs (t .clocks) (k * width) clock′ → (r ≡ true) ↔ Right t k
-  unfolding Right RowIs
+  pub right-cached : (r : Bool) (clock′ : List ℕ) → width ≡ n → ltb 0 (getD (t .clocks) (k * width + actorAt (t .nodes) k) 0) ≡ true → clock′ ≡ each-below (clock (graph t) (k ∷ [])) n → (r ≡ true) ↔ RowIs (t .clocks) (k * width) clock′ → (r ≡ true) ↔ RowsRight t k
+  unfolding RowsRight RowIs
   right-cached r clock′ full y e i =
       let on : cached t k ≡ true = ap (λ (x : ℕ). ltb 0 (getD (t .clocks) (k * x + actorAt (t .nodes) k) 0)) (sym (v .walkable .wide)) ∙ y in
       let l : length clock′ ≡ n = ap length e ∙ length-each (clock (graph t) (k ∷ [])) n in
@@ -99,8 +99,8 @@ module _ (t : Tables) (width n k : ℕ) (marks : List ℕ) (v : Checkable t widt
       (λ p a h. ap (λ (x : ℕ). getD (t .clocks) (k * x + a) 0) w ∙ p a (omega arith) ∙ ap (λ (b : Bool). cond b (clock (graph t) (k ∷ []) a) 0) on ∙ sym (at a (omega arith)))
 
   -- one that is not is right exactly if it is all 0
-  pub right-bare : (r : Bool) (clock′ : List ℕ) → width ≡ n → ltb 0 (getD (t .clocks) (k * width + actorAt (t .nodes) k) 0) ≡ false → clock′ ≡ replicate n 0 → (r ≡ true) ↔ RowIs (t .clocks) (k * width) clock′ → (r ≡ true) ↔ Right t k
-  unfolding Right RowIs
+  pub right-bare : (r : Bool) (clock′ : List ℕ) → width ≡ n → ltb 0 (getD (t .clocks) (k * width + actorAt (t .nodes) k) 0) ≡ false → clock′ ≡ replicate n 0 → (r ≡ true) ↔ RowIs (t .clocks) (k * width) clock′ → (r ≡ true) ↔ RowsRight t k
+  unfolding RowsRight RowIs
   right-bare r clock′ full y e i =
       let off : cached t k ≡ false = ap (λ (x : ℕ). ltb 0 (getD (t .clocks) (k * x + actorAt (t .nodes) k) 0)) (sym (v .walkable .wide)) ∙ y in
       let l : length clock′ ≡ n = ap length e ∙ length-replicate {A = ℕ} n 0 in
@@ -113,7 +113,7 @@ module _ (t : Tables) (width n k : ℕ) (marks : List ℕ) (v : Checkable t widt
 -- ---- all rows in turn
 
 -- row k can be checked where the rows below it are right
-pub checkable : (t : Tables) (width n k : ℕ) (marks : List ℕ) → Sound t → width ≡ actorRoom t → n ≡ width → k < changes t → changes t ≤ length marks → ((j : ℕ) → getD marks j 0 ≡ 0) → Below (Right t) k → Checkable t width n k marks
+pub checkable : (t : Tables) (width n k : ℕ) (marks : List ℕ) → Sound t → width ≡ actorRoom t → n ≡ width → k < changes t → changes t ≤ length marks → ((j : ℕ) → getD marks j 0 ≡ 0) → Below (RowsRight t) k → Checkable t width n k marks
 checkable t width n k marks s w e l r z b = record {
   walkable = record {
     sound = s;
@@ -130,7 +130,7 @@ checkable t width n k marks s w e l r z b = record {
 }
 
 -- sound tables whose rows are right are valid
-pub valid-rows : (t : Tables) (r : Bool) → Sound t → (r ≡ true) ↔ ((k : ℕ) → k < changes t → Right t k) → (r ≡ true) ↔ Valid t
+pub valid-rows : (t : Tables) (r : Bool) → Sound t → (r ≡ true) ↔ ((k : ℕ) → k < changes t → RowsRight t k) → (r ≡ true) ↔ Valid t
 valid-rows t r s i = same-answer i (λ p. record { sound = s; rows = right-rows t s p }) (λ v. rows-right t v)
 
 -- ---- throwing the cached clocks away

@@ -12,7 +12,7 @@ use lib.ListN.{length, getD, set, length-set}
 use lib.Seq.{getD-set-same, getD-set-other}
 use borrow.Author.Tests.{eqb-true, eqb-false, eq-eqb, ne-eqb, ltb-true, ltb-false, lt-ltb, le-ltb}
 use Rattle.paper.specs.Lists.{mem, pick}
-use Rattle.paper.specs.Graph.{Graph, clock, Valid as ValidGraph}
+use Rattle.paper.specs.Graph.{Graph, clock, ValidGraph as ValidGraph}
 use Rattle.paper.specs.ProofWords.{front}
 use Rattle.paper.specs.Caching.{in-turn, cached-to, cached-after}
 use Rattle.paper.proofs.Bools.{by-bool, to-false, below-or-not, mem-single, mem-here}
@@ -22,7 +22,7 @@ use Rattle.tables.specs.Tables.{Tables, changes, actorRoom, entryAt, graph}
 use Rattle.tables.specs.Valid.{Sound}
 use Rattle.tables.specs.DepsLaws.{valid-graph}
 use Rattle.walk.specs.Marks.{marked}
-use Rattle.walk.specs.Rows.{cached, Right}
+use Rattle.walk.specs.Rows.{cached, RowsRight}
 use Rattle.walk.specs.RowLaws.{row-fits}
 use Rattle.walk.specs.WalkLaws.{front-none}
 use Rattle.cache.specs.Cache.{RowsTo, Cachable, Halfway, LeftCached, RowMerged}
@@ -47,7 +47,7 @@ module _ (t : Tables) (width k : ℕ) (marks₀ : List ℕ) (h : Halfway t width
   valid = valid-graph t (h .sound)
 
   pub caching-start : Caching t k marks₀ (t .clocks) marks₀ 0
-  unfolding Right pick in-turn
+  unfolding RowsRight pick in-turn
   caching-start = record {
     inside = omega arith;
     long = refl;

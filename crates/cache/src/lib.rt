@@ -8,7 +8,7 @@ ghost use Rattle.tables.specs.Tables.{tables, graph, changes, actorRoom};
 ghost use Rattle.tables.specs.Valid.{Valid, Sound};
 ghost use Rattle.cache.specs.Cache.{afterCaching, forgotten, RowMerged, Cachable, Begun, NodeCached, Halfway, LeftCached, RowIs, Checkable, NodeClocked, RowChecked};
 ghost use lib.Dec.{ltb};
-ghost use Rattle.walk.specs.Rows.{Right};
+ghost use Rattle.walk.specs.Rows.{RowsRight};
 ghost use lib.Seq.{paste};
 
 // The larger of two numbers.
@@ -311,7 +311,7 @@ fn cache_right(
     requires { ⌜ Sound (tables (now hashes) (now nodes) (now targets) (now nexts) (now clocks) (now counts)) × (width ≡ actorRoom (tables (now hashes) (now nodes) (now targets) (now nexts) (now clocks) (now counts))) ⌝ }
     requires { ⌜ (length (now clock) ≡ width) × (getD (now counts) 0 0 ≤ length (now marks)) ⌝ }
     requires { ⌜ ((j : ℕ) → getD (now marks) j 0 ≡ 0) ⌝ }
-    ensures { λ r. ⌜ (r ≡ true) ↔ ((k : ℕ) → k < getD (now (counts .entry)) 0 0 → Right (tables (now (hashes .entry)) (now (nodes .entry)) (now (targets .entry)) (now (nexts .entry)) (now (clocks .entry)) (now (counts .entry))) k) ⌝ }
+    ensures { λ r. ⌜ (r ≡ true) ↔ ((k : ℕ) → k < getD (now (counts .entry)) 0 0 → RowsRight (tables (now (hashes .entry)) (now (nodes .entry)) (now (targets .entry)) (now (nexts .entry)) (now (clocks .entry)) (now (counts .entry))) k) ⌝ }
 {
     let n = counts[0] as usize;
     let mut k = 0;

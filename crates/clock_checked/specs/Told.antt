@@ -16,16 +16,16 @@ use Rattle.clock_checked.specs.declared.Answer.{Answer}
 use Rattle.clock_checked.specs.declared.Answer.the-variants.{Done, Yes, No, NotValid, NoPlace, NoRoom}
 
 -- the paper's outcome and number of each answer
-abbrev pub outcome : Answer → Outcome
-outcome Done = done
-outcome Yes = done
-outcome No = done
-outcome NotValid = not-valid
-outcome NoPlace = no-actor
-outcome NoRoom = no-actor-room
+abbrev pub clockOutcome : Answer → Outcome
+clockOutcome Done = done
+clockOutcome Yes = done
+clockOutcome No = done
+clockOutcome NotValid = not-valid
+clockOutcome NoPlace = no-actor
+clockOutcome NoRoom = no-actor-room
 
-abbrev pub numberOf : Answer → ℕ
-numberOf a = number (outcome a)
+abbrev pub clockNumber : Answer → ℕ
+clockNumber a = number (clockOutcome a)
 
 -- 1 for yes
 abbrev pub yesOf : Answer → ℕ
@@ -44,41 +44,41 @@ outcomeGot got.NotValid = not-valid
 abbrev pub numberGot : Got → ℕ
 numberGot g = number (outcomeGot g)
 
-abbrev pub yesNo : Bool → Answer
-yesNo b = cond b Yes No
+abbrev pub clockYesNo : Bool → Answer
+clockYesNo b = cond b Yes No
 
 -- an answer beside the entries afterwards
-pub record Told : Type 0 where
+pub record EntriesLeft : Type 0 where
   pub answer : Answer
   pub entries : List ℕ
 
-abbrev pub told : Answer → List ℕ → Told
-told r c = record { answer = r; entries = c }
+abbrev pub entries-left : Answer → List ℕ → EntriesLeft
+entries-left r c = record { answer = r; entries = c }
 
 abbrev pub getTold : List ℕ → ℕ → ℕ → Got
 getTold c n a = cond (ltb (length c) n) got.NotValid (got.Entry (getD (take n c) a 0))
 
-abbrev pub includeTold : List ℕ → ℕ → ℕ → Entry → Told
-includeTold c n a e = cond (ltb (length c) n) (told NotValid c) (cond (leb n a) (told NoPlace c) (told (yesNo (takes (getD c a 0) e)) (included c a e)))
+abbrev pub includeTold : List ℕ → ℕ → ℕ → Entry → EntriesLeft
+includeTold c n a e = cond (ltb (length c) n) (entries-left NotValid c) (cond (leb n a) (entries-left NoPlace c) (entries-left (clockYesNo (takes (getD c a 0) e)) (included c a e)))
 
 -- b's entries are lent beside, m of them in use
-abbrev pub mergeTold : List ℕ → ℕ → List ℕ → ℕ → Told
-mergeTold c n b m = cond (ltb (length c) n) (told NotValid c) (cond (ltb (length b) m) (told NotValid c) (told Done (joined (take n c) (take m b) ++ drop n c)))
+abbrev pub mergeTold : List ℕ → ℕ → List ℕ → ℕ → EntriesLeft
+mergeTold c n b m = cond (ltb (length c) n) (entries-left NotValid c) (cond (ltb (length b) m) (entries-left NotValid c) (entries-left Done (joined (take n c) (take m b) ++ drop n c)))
 
 abbrev pub coversTold : List ℕ → ℕ → List ℕ → ℕ → Answer
-coversTold c n b m = cond (ltb (length c) n) NotValid (cond (ltb (length b) m) NotValid (cond (eqb n m) (yesNo (coversAll (take n c) (take m b))) NotValid))
+coversTold c n b m = cond (ltb (length c) n) NotValid (cond (ltb (length b) m) NotValid (cond (eqb n m) (clockYesNo (coversAll (take n c) (take m b))) NotValid))
 
-abbrev pub isolateTold : List ℕ → ℕ → ℕ → Told
-isolateTold c n a = cond (ltb (length c) n) (told NotValid c) (cond (leb n a) (told NoPlace c) (told Done (isolated c a)))
+abbrev pub isolateTold : List ℕ → ℕ → ℕ → EntriesLeft
+isolateTold c n a = cond (ltb (length c) n) (entries-left NotValid c) (cond (leb n a) (entries-left NoPlace c) (entries-left Done (isolated c a)))
 
 abbrev pub opTold : List ℕ → ℕ → ℕ → ℕ → Answer
-opTold c n a counter = cond (ltb (length c) n) NotValid (cond (leb n a) NoPlace (yesNo (opCovers c a counter)))
+opTold c n a counter = cond (ltb (length c) n) NotValid (cond (leb n a) NoPlace (clockYesNo (opCovers c a counter)))
 
-abbrev pub insertTold : List ℕ → ℕ → ℕ → Told
-insertTold c n p = cond (ltb (length c) n) (told NotValid c) (cond (ltb n p) (told NoRoom c) (cond (leb (length c) n) (told NoRoom c) (told Done (inserted c n p))))
+abbrev pub insertTold : List ℕ → ℕ → ℕ → EntriesLeft
+insertTold c n p = cond (ltb (length c) n) (entries-left NotValid c) (cond (ltb n p) (entries-left NoRoom c) (cond (leb (length c) n) (entries-left NoRoom c) (entries-left Done (inserted c n p))))
 
-abbrev pub removeTold : List ℕ → ℕ → ℕ → Told
-removeTold c n p = cond (ltb (length c) n) (told NotValid c) (cond (leb n p) (told NoPlace c) (told Done (removed c n p)))
+abbrev pub removeTold : List ℕ → ℕ → ℕ → EntriesLeft
+removeTold c n p = cond (ltb (length c) n) (entries-left NotValid c) (cond (leb n p) (entries-left NoPlace c) (entries-left Done (removed c n p)))
 
 -- of a range the two clocks are lent: b with n entries in use, and c with m
 abbrev pub seenAfter : Range → List ℕ → ℕ → ℕ → ℕ → Answer

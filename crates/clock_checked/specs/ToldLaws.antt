@@ -7,30 +7,30 @@ use Prim.Native.Nat.{ℕ}
 use lib.Dec.{ltb, leb}
 use lib.ListN.{length, getD, take, drop}
 use Rattle.clock.specs.Clock.{takes, included, joined, isolated, inserted, removed}
-use Rattle.clock_checked.specs.Told.{Told, told, numberOf, yesNo, includeTold, mergeTold, isolateTold, insertTold, removeTold}
+use Rattle.clock_checked.specs.Told.{EntriesLeft, entries-left, clockNumber, clockYesNo, includeTold, mergeTold, isolateTold, insertTold, removeTold}
 use Rattle.clock.specs.declared.Entry.{Entry}
 use Rattle.clock_checked.specs.declared.Answer.{Answer}
 use Rattle.clock_checked.specs.declared.Answer.the-variants.{Done, NotValid, NoPlace, NoRoom}
 
-abbrev pub Keeps : Told → List ℕ → Type 0
-Keeps t c = (numberOf (t .answer) ≡ 0 → ⊥) → t .entries ≡ c
+abbrev pub Keeps : EntriesLeft → List ℕ → Type 0
+Keeps t c = (clockNumber (t .answer) ≡ 0 → ⊥) → t .entries ≡ c
 
 -- a refusal, and then the rest
-refuses : (b : Bool) (r : Answer) (c : List ℕ) (t : Told) → Keeps t c → Keeps (cond b (told r c) t) c
+refuses : (b : Bool) (r : Answer) (c : List ℕ) (t : EntriesLeft) → Keeps t c → Keeps (cond b (entries-left r c) t) c
 refuses true r c t k = λ n. refl
 refuses false r c t k = k
 
-fulfils : (r : Answer) (d c : List ℕ) → numberOf r ≡ 0 → Keeps (told r d) c
+fulfils : (r : Answer) (d c : List ℕ) → clockNumber r ≡ 0 → Keeps (entries-left r d) c
 fulfils r d c z = λ n. absurd (n z)
 
-yes-or-no : (b : Bool) → numberOf (yesNo b) ≡ 0
+yes-or-no : (b : Bool) → clockNumber (clockYesNo b) ≡ 0
 yes-or-no true = refl
 yes-or-no false = refl
 
 module _ (c : List ℕ) (n : ℕ) where
   pub include-keeps : (a : ℕ) (e : Entry) → Keeps (includeTold c n a e) c
   include-keeps a e =
-      refuses (ltb (length c) n) NotValid c _ (refuses (leb n a) NoPlace c _ (fulfils (yesNo (takes (getD c a 0) e)) (included c a e) c (yes-or-no (takes (getD c a 0) e))))
+      refuses (ltb (length c) n) NotValid c _ (refuses (leb n a) NoPlace c _ (fulfils (clockYesNo (takes (getD c a 0) e)) (included c a e) c (yes-or-no (takes (getD c a 0) e))))
 
   pub merge-keeps : (b : List ℕ) (m : ℕ) → Keeps (mergeTold c n b m) c
   merge-keeps b m = refuses (ltb (length c) n) NotValid c _ (refuses (ltb (length b) m) NotValid c _ (fulfils Done (joined (take n c) (take m b) ++ drop n c) c refl))

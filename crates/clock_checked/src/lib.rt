@@ -1,7 +1,7 @@
 // Clocks as they are lent: a slice of entries, and the count of those in use. Nothing is asked of either: a count above the slice, a place not below the count
 // and whatever else is refused get an answer of their own, and leave every entry as it was.
 ghost use mathlib.Core.Path.{_≡_};
-ghost use Rattle.clock_checked.specs.Told.{told, numberOf, numberGot, yesOf, getTold, includeTold, mergeTold, coversTold, isolateTold, opTold, insertTold, removeTold, afterTold, beforeTold};
+ghost use Rattle.clock_checked.specs.Told.{entries-left, clockNumber, numberGot, yesOf, getTold, includeTold, mergeTold, coversTold, isolateTold, opTold, insertTold, removeTold, afterTold, beforeTold};
 use clock::Entry;
 use clock::Range;
 
@@ -27,7 +27,7 @@ pub enum Got {
 
 // The paper's number of an answer.
 pub fn number(a: Answer) -> u32
-    ensures { λ r. ⌜ r ≡ numberOf a ⌝ }
+    ensures { λ r. ⌜ r ≡ clockNumber a ⌝ }
 {
     match a {
         Answer::Done => 0,
@@ -75,7 +75,7 @@ pub fn try_get(entries: &[u32], count: usize, a: usize) -> Got
 
 // Enters a sequence; says whether.
 pub fn try_include(entries: &mut [u32], count: usize, place: usize, entry: Entry) -> Answer
-    ensures { λ r. ⌜ told r (now (entries .exit)) ≡ includeTold (now (entries .entry)) count place entry ⌝ }
+    ensures { λ r. ⌜ entries-left r (now (entries .exit)) ≡ includeTold (now (entries .entry)) count place entry ⌝ }
 {
     if entries.len() < count {
         return Answer::NotValid;
@@ -92,7 +92,7 @@ pub fn try_include(entries: &mut [u32], count: usize, place: usize, entry: Entry
 
 // Joins the first n of a with the first m of b; clocks of different lengths are no refusal.
 pub fn try_merge(a: &mut [u32], n: usize, b: &[u32], m: usize) -> Answer
-    ensures { λ r. ⌜ told r (now (a .exit)) ≡ mergeTold (now (a .entry)) n (now (b .entry)) m ⌝ }
+    ensures { λ r. ⌜ entries-left r (now (a .exit)) ≡ mergeTold (now (a .entry)) n (now (b .entry)) m ⌝ }
 {
     if a.len() < n {
         return Answer::NotValid;
@@ -126,7 +126,7 @@ pub fn try_covers(a: &[u32], n: usize, b: &[u32], m: usize) -> Answer
 
 // The entry at a place becomes the largest number.
 pub fn try_isolate(entries: &mut [u32], count: usize, a: usize) -> Answer
-    ensures { λ r. ⌜ told r (now (entries .exit)) ≡ isolateTold (now (entries .entry)) count a ⌝ }
+    ensures { λ r. ⌜ entries-left r (now (entries .exit)) ≡ isolateTold (now (entries .entry)) count a ⌝ }
 {
     if entries.len() < count {
         return Answer::NotValid;
@@ -157,7 +157,7 @@ pub fn try_op_covers(entries: &[u32], count: usize, actor: usize, counter: u64) 
 
 // A new actor at place p. The count is the caller's to raise on `Done`.
 pub fn try_rewrite_with_new_actor(entries: &mut [u32], count: usize, p: usize) -> Answer
-    ensures { λ r. ⌜ told r (now (entries .exit)) ≡ insertTold (now (entries .entry)) count p ⌝ }
+    ensures { λ r. ⌜ entries-left r (now (entries .exit)) ≡ insertTold (now (entries .entry)) count p ⌝ }
 {
     if entries.len() < count {
         return Answer::NotValid;
@@ -174,7 +174,7 @@ pub fn try_rewrite_with_new_actor(entries: &mut [u32], count: usize, p: usize) -
 
 // The actor at place p goes. The count is the caller's to lower on `Done`.
 pub fn try_remove_actor(entries: &mut [u32], count: usize, p: usize) -> Answer
-    ensures { λ r. ⌜ told r (now (entries .exit)) ≡ removeTold (now (entries .entry)) count p ⌝ }
+    ensures { λ r. ⌜ entries-left r (now (entries .exit)) ≡ removeTold (now (entries .entry)) count p ⌝ }
 {
     if entries.len() < count {
         return Answer::NotValid;

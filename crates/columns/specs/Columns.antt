@@ -7,21 +7,21 @@ use lib.Dec.{eqb, ltb, leb}
 use lib.ListN.{length, getD, take, drop}
 use Rattle.paper.specs.Lists.{mem, tally, some-below, all-below, all-in, sum-below, sameList, hashAt}
 use Rattle.paper.specs.Numbers.{Outcome, number, done, malformed, no-actor-room, columns-disagree, no-node-room, no-edge-room}
-use Rattle.paper.specs.Loading.{Columns, listed}
+use Rattle.paper.specs.Loading.{Columns, listed-changes}
 use Rattle.columns.specs.declared.Loading.{Loading}
 use Rattle.columns.specs.declared.Loading.the-variants.{Done, Malformed, NoActorRoom, Disagree, NoNodeRoom, NoEdgeRoom}
 
 -- an answer in the paper's words, and its number
-abbrev pub outcomeOf : Loading → Outcome
-outcomeOf Done = done
-outcomeOf Malformed = malformed
-outcomeOf NoActorRoom = no-actor-room
-outcomeOf Disagree = columns-disagree
-outcomeOf NoNodeRoom = no-node-room
-outcomeOf NoEdgeRoom = no-edge-room
+abbrev pub loadingOutcome : Loading → Outcome
+loadingOutcome Done = done
+loadingOutcome Malformed = malformed
+loadingOutcome NoActorRoom = no-actor-room
+loadingOutcome Disagree = columns-disagree
+loadingOutcome NoNodeRoom = no-node-room
+loadingOutcome NoEdgeRoom = no-edge-room
 
-abbrev pub numberOf : Loading → ℕ
-numberOf l = number (outcomeOf l)
+abbrev pub loadingNumber : Loading → ℕ
+loadingNumber l = number (loadingOutcome l)
 
 -- the columns from their lists
 abbrev pub columns : List ℕ → List ℕ → List ℕ → List ℕ → List ℕ → List ℕ → List ℕ → List ℕ → ℕ → Columns
@@ -89,28 +89,28 @@ lengthsAre n a s m o d = eqb a n && (eqb s n && (eqb m n && (eqb o n && eqb d n)
 
 -- the checks in the code's order
 abbrev pub lengthsTest : Columns → Bool
-lengthsTest c = lengthsAre (listed c) (length (c .actors)) (length (c .seqs)) (length (c .max-ops)) (length (c .op-counts)) (length (c .dep-counts))
+lengthsTest c = lengthsAre (listed-changes c) (length (c .actors)) (length (c .seqs)) (length (c .max-ops)) (length (c .op-counts)) (length (c .dep-counts))
 
 abbrev pub actorsTest : Columns → Bool
-actorsTest c = all-below (actorLow (c .actors) (c .actor-count)) (listed c)
+actorsTest c = all-below (actorLow (c .actors) (c .actor-count)) (listed-changes c)
 
 abbrev pub opsTest : Columns → Bool
-opsTest c = all-below (opsRight (c .max-ops) (c .op-counts)) (listed c)
+opsTest c = all-below (opsRight (c .max-ops) (c .op-counts)) (listed-changes c)
 
 abbrev pub enoughTest : Columns → Bool
-enoughTest c = all-below (few (c .dep-counts)) (listed c) && leb (total (c .dep-counts) (listed c)) (length (c .dep-values))
+enoughTest c = all-below (few (c .dep-counts)) (listed-changes c) && leb (total (c .dep-counts) (listed-changes c)) (length (c .dep-values))
 
 abbrev pub depsTest : Columns → Bool
-depsTest c = all-below (λ k. all-in (depRight (c .max-ops) k) (depsAt (c .dep-counts) (c .dep-values) k)) (listed c)
+depsTest c = all-below (λ k. all-in (depRight (c .max-ops) k) (depsAt (c .dep-counts) (c .dep-values) k)) (listed-changes c)
 
 abbrev pub runsTest : Columns → Bool
-runsTest c = all-below (runsOn (c .actors) (c .seqs)) (listed c)
+runsTest c = all-below (runsOn (c .actors) (c .seqs)) (listed-changes c)
 
 abbrev pub newTest : Columns → Bool
-newTest c = all-below (isNew (c .hashes)) (listed c)
+newTest c = all-below (isNew (c .hashes)) (listed-changes c)
 
 abbrev pub headsTest : Columns → Bool
-headsTest c = headsRight (c .hashes) (listed c) (take (total (c .dep-counts) (listed c)) (c .dep-values)) (c .heads)
+headsTest c = headsRight (c .hashes) (listed-changes c) (take (total (c .dep-counts) (listed-changes c)) (c .dep-values)) (c .heads)
 
 abbrev pub checks : Columns → Bool
 checks c = lengthsTest c && (actorsTest c && (opsTest c && (enoughTest c && (depsTest c && (runsTest c && (newTest c && headsTest c))))))

@@ -14,7 +14,7 @@ use Rattle.paper.proofs.Bools.{some-ext, to-false, not-both, and-both, and-fst,
 use Rattle.paper.proofs.Count.{tally-more, tally-most}
 use Rattle.paper.proofs.Scans.{Passed, all-start, all-next, all-end, all-no, all-both, all-ext, both-in, sum-start, sum-next, sum-more, tally-start}
 use Rattle.paper.specs.Graph.{wanted}
-use Rattle.paper.specs.Loading.{Columns, listed, deps-before, deps-of, column-graph, lengths-equal, actors-below, ops-right, deps-few, values-enough, deps-below, max-ops-rise, sequences-run, hashes-distinct, heads-stated, agree, judged-load}
+use Rattle.paper.specs.Loading.{Columns, listed-changes, deps-before, deps-of, column-graph, lengths-equal, actors-below, ops-right, deps-few, values-enough, deps-below, max-ops-rise, sequences-run, hashes-distinct, heads-stated, agree, judged-load}
 use Rattle.paper.proofs.Loading.{wanted-values, heads-stated-is}
 use Rattle.columns.specs.Columns.{opsRight, few, total, depsAt, depRight, runsOn, isNew, isKnown, headIs, headsRight, actorLow, lengthsAre, depsTest, headsTest, enoughTest, checks}
 
@@ -160,9 +160,9 @@ lengths-of n a s m o d e =
       deps = eqb-true d n (and-snd (eqb o n) (eqb d n) r3);
     }
 
-pub enough-of : (c : Columns) → enoughTest c ≡ true → total (c .dep-counts) (listed c) ≤ length (c .dep-values)
+pub enough-of : (c : Columns) → enoughTest c ≡ true → total (c .dep-counts) (listed-changes c) ≤ length (c .dep-values)
 enough-of c t =
-    leb-true (total (c .dep-counts) (listed c)) (length (c .dep-values)) (and-snd (all-below (few (c .dep-counts)) (listed c)) (leb (total (c .dep-counts) (listed c)) (length (c .dep-values))) t)
+    leb-true (total (c .dep-counts) (listed-changes c)) (length (c .dep-values)) (and-snd (all-below (few (c .dep-counts)) (listed-changes c)) (leb (total (c .dep-counts) (listed-changes c)) (length (c .dep-values))) t)
 
 -- the values of all changes, as they are lent
 pub used-part : (vs : List ℕ) (e n : ℕ) → e ≡ n → take (e - 0) (drop 0 vs) ≡ take n vs
@@ -171,29 +171,29 @@ used-part vs e n q = let z : e - 0 ≡ n = omega arith in ap (λ (m : ℕ). take
 module _ (c : Columns) where
   -- the values of all changes
   abbrev used : List ℕ
-  used = take (total (c .dep-counts) (listed c)) (c .dep-values)
+  used = take (total (c .dep-counts) (listed-changes c)) (c .dep-values)
 
   pub heads-are : headsTest c ≡ heads-stated c
   unfolding deps-before
   heads-are =
       sym (heads-stated-is c
       ∙ ap₂ (λ (a b : Bool). a && b)
-      (all-ext (λ i. some-below (λ k. sameList (hashAt (c .hashes) k) (hashAt (c .heads) i) && not (wanted (column-graph c) k)) (listed c))
-      (λ i. some-below (headIs (c .hashes) used (hashAt (c .heads) i)) (listed c)) (length (c .heads) / 32)
+      (all-ext (λ i. some-below (λ k. sameList (hashAt (c .hashes) k) (hashAt (c .heads) i) && not (wanted (column-graph c) k)) (listed-changes c))
+      (λ i. some-below (headIs (c .hashes) used (hashAt (c .heads) i)) (listed-changes c)) (length (c .heads) / 32)
       (λ i l.
-      some-ext (λ k. sameList (hashAt (c .hashes) k) (hashAt (c .heads) i) && not (wanted (column-graph c) k)) (headIs (c .hashes) used (hashAt (c .heads) i)) (listed c)
+      some-ext (λ k. sameList (hashAt (c .hashes) k) (hashAt (c .heads) i) && not (wanted (column-graph c) k)) (headIs (c .hashes) used (hashAt (c .heads) i)) (listed-changes c)
       (λ k b. ap (λ (w : Bool). sameList (hashAt (c .hashes) k) (hashAt (c .heads) i) && not w) (wanted-values c k))))
       (all-ext (λ k. wanted (column-graph c) k || isKnown (c .heads) (length (c .heads) / 32) (hashAt (c .hashes) k))
-      (λ k. mem k used || isKnown (c .heads) (length (c .heads) / 32) (hashAt (c .hashes) k)) (listed c)
+      (λ k. mem k used || isKnown (c .heads) (length (c .heads) / 32) (hashAt (c .hashes) k)) (listed-changes c)
       (λ k l. ap (λ (w : Bool). w || isKnown (c .heads) (length (c .heads) / 32) (hashAt (c .hashes) k)) (wanted-values c k))))
 
   pub deps-are : depsTest c ≡ (deps-below c && max-ops-rise c)
   unfolding deps-below max-ops-rise deps-before
   deps-are =
       all-ext (λ k. all-in (depRight (c .max-ops) k) (deps-of c k))
-      (λ k. all-in (λ j. ltb j k) (deps-of c k) && all-in (λ j. leb (getD (c .max-ops) j 0) (getD (c .max-ops) k 0)) (deps-of c k)) (listed c)
+      (λ k. all-in (λ j. ltb j k) (deps-of c k) && all-in (λ j. leb (getD (c .max-ops) j 0) (getD (c .max-ops) k 0)) (deps-of c k)) (listed-changes c)
       (λ k l. both-in (λ j. ltb j k) (λ j. leb (getD (c .max-ops) j 0) (getD (c .max-ops) k 0)) (deps-of c k))
-      ∙ all-both (λ k. all-in (λ j. ltb j k) (deps-of c k)) (λ k. all-in (λ j. leb (getD (c .max-ops) j 0) (getD (c .max-ops) k 0)) (deps-of c k)) (listed c)
+      ∙ all-both (λ k. all-in (λ j. ltb j k) (deps-of c k)) (λ k. all-in (λ j. leb (getD (c .max-ops) j 0) (getD (c .max-ops) k 0)) (deps-of c k)) (listed-changes c)
 
   -- the checks are the paper's conditions
   pub checks-agree : checks c ≡ agree c

@@ -9,7 +9,7 @@ ghost use lib.Dec.{eqb, leb};
 ghost use lib.ListN.{length, getD};
 ghost use Rattle.paper.specs.Lists.{mem, tally, some-below, all-below, all-in, sameList, hashAt};
 ghost use Rattle.paper.specs.Loading.{agree, judged-load};
-ghost use Rattle.columns.specs.Columns.{columns, outcomeOf, numberOf, actorLow, opsRight, few, runsOn, total, depsAt, depRight, isKnown, isNew, headIs, statedRight, headTold, headsRight, lengthsAre};
+ghost use Rattle.columns.specs.Columns.{columns, loadingOutcome, loadingNumber, actorLow, opsRight, few, runsOn, total, depsAt, depRight, isKnown, isNew, headIs, statedRight, headTold, headsRight, lengthsAre};
 
 // What loading comes to.
 pub enum Loading {
@@ -23,7 +23,7 @@ pub enum Loading {
 
 // The paper's number.
 pub fn number(l: Loading) -> u32
-    ensures { λ r. ⌜ r ≡ numberOf l ⌝ }
+    ensures { λ r. ⌜ r ≡ loadingNumber l ⌝ }
 {
     match l {
         Loading::Done => 0,
@@ -386,7 +386,7 @@ pub fn judge(
     edges: usize,
     rows: usize,
 ) -> Loading
-    ensures { λ r. ⌜ outcomeOf r ≡ judged-load nodes edges rows (columns (now (hashes .entry)) (now (actors .entry)) (now (seqs .entry)) (now (maxes .entry)) (now (ops .entry)) (now (deps .entry)) (now (values .entry)) (now (heads .entry)) count) ⌝ }
+    ensures { λ r. ⌜ loadingOutcome r ≡ judged-load nodes edges rows (columns (now (hashes .entry)) (now (actors .entry)) (now (seqs .entry)) (now (maxes .entry)) (now (ops .entry)) (now (deps .entry)) (now (values .entry)) (now (heads .entry)) count) ⌝ }
 {
     if hashes.len() % 32 != 0 {
         return Loading::Malformed;

@@ -9,14 +9,14 @@ use Rattle.paper.specs.Graph.{Graph, heads}
 use Rattle.paper.specs.Loading.{same-hashes}
 use Rattle.tables.specs.Tables.{headAt}
 use Rattle.answer_buffer.specs.Answers.{whole-list}
-use Rattle.answer_buffer.specs.declared.Told.{Told}
-use Rattle.answer_buffer.specs.declared.Told.the-variants.{Yes, No, Malformed}
+use Rattle.answer_buffer.specs.declared.YesNo.{YesNo}
+use Rattle.answer_buffer.specs.declared.YesNo.the-variants.{Yes, No, Malformed}
 
 -- the list names exactly the heads, order and repeats ignored: each listed hash is a head's, and each head's is listed
 unfoldable pub current : Graph → List ℕ → Bool
 current g bytes = same-hashes (hashes-of bytes) (heads g)
 
-unfoldable pub current-told : Graph → List ℕ → Told
+unfoldable pub current-told : Graph → List ℕ → YesNo
 current-told g bytes = cond (whole-list bytes) (cond (current g bytes) Yes No) Malformed
 
 -- node k is flagged as a head, and its hash is h

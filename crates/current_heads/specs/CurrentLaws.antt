@@ -20,7 +20,7 @@ use Rattle.hash.specs.declared.Found.the-variants.{At, Unknown}
 use Rattle.tables.specs.Tables.{Tables, changes, headAt, graph}
 use Rattle.tables.specs.Valid.{Valid}
 use Rattle.heads.specs.HeadLaws.{flag-says}
-use Rattle.answer_buffer.specs.declared.Told.the-variants.{Yes, No, Malformed}
+use Rattle.answer_buffer.specs.declared.YesNo.the-variants.{Yes, No, Malformed}
 use Rattle.current_heads.specs.Current.{current, current-told, head-is, head-named}
 use Rattle.current_heads.specs.Ascents.{NamesSame, same-names, ascending-same}
 

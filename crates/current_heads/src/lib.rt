@@ -6,7 +6,7 @@ ghost use Rattle.paper.specs.Lists.{some-below, all-below, hashAt, names, hashe
 ghost use Rattle.tables.specs.Tables.{tables, graph};
 ghost use Rattle.tables.specs.Valid.{Valid};
 ghost use Rattle.current_heads.specs.Current.{head-is, head-named, current-told};
-use answer_buffer::Told;
+use answer_buffer::YesNo;
 use hash::Found;
 
 // Is node k a head, and the hash its own?
@@ -99,19 +99,19 @@ pub fn heads_are_current(
     clocks: &[u32],
     counts: &[u32],
     list: &[u8],
-) -> Told
+) -> YesNo
     requires { ⌜ Valid (tables (now hashes) (now nodes) (now targets) (now nexts) (now clocks) (now counts)) ⌝ }
     ensures { λ r. ⌜ r ≡ current-told (graph (tables (now (hashes .entry)) (now (nodes .entry)) (now (targets .entry)) (now (nexts .entry)) (now (clocks .entry)) (now (counts .entry)))) (now (list .entry)) ⌝ }
 {
     if list.len() % 32 != 0 {
-        return Told::Malformed;
+        return YesNo::Malformed;
     }
     let n = counts[0] as usize;
     if !listed_are_heads(hashes, nodes, n, list) {
-        return Told::No;
+        return YesNo::No;
     }
     if !heads_are_listed(hashes, nodes, n, list) {
-        return Told::No;
+        return YesNo::No;
     }
-    Told::Yes
+    YesNo::Yes
 }

@@ -20,12 +20,12 @@ use Rattle.tables.specs.Tables.{Tables, tables, graph, actorRoom}
 use Rattle.tables.specs.Valid.{Lengths, Valid}
 use Rattle.tables.specs.DepsLaws.{valid-graph}
 use Rattle.cache.specs.CheckLaws.{forgotten-valid}
-use Rattle.actors.specs.Actors.{numberOf, opening, opened, inserting, inserted, removing, removed, ifDone}
-use Rattle.actors.specs.declared.Numbered.{Numbered}
-use Rattle.actors.specs.declared.Numbered.the-variants.{Done, NoActor, HasChanges, NoRoom}
+use Rattle.actors.specs.Actors.{actorNumber, opening, opened, inserting, actorInserted, removing, actorRemoved, ifActorsDone}
+use Rattle.actors.specs.declared.ActorAnswer.{ActorAnswer}
+use Rattle.actors.specs.declared.ActorAnswer.the-variants.{Done, NoActor, HasChanges, NoRoom}
 use Rattle.judge.specs.declared.Judged.{Judged}
 use Rattle.judge.specs.declared.Judged.the-variants.{Done as Accepted, Malformed, Known, Unknown, NoActor as Actorless, WrongSequence, BadOps, TooManyDeps, NoNodeRoom, NoEdgeRoom}
-use Rattle.judge.specs.Judge.{judged, numberOf as judgedNumber}
+use Rattle.judge.specs.Judge.{tablesJudged, judgedNumber as judgedNumber}
 use Rattle.actors.specs.Lives.{opened-valid, insert-valid, remove-valid, refused}
 use Rattle.graph.specs.Life.{added-valid}
 use Rattle.graph.specs.PlaceLaws.{added-refused, same-tables}
@@ -63,7 +63,7 @@ right t v =
 -- ---- one operation
 
 -- every number is one of the table's
-small : (j : Numbered) → numberOf j ≤ 18
+small : (j : ActorAnswer) → actorNumber j ≤ 18
 small Done = omega arith
 small NoActor = omega arith
 small HasChanges = omega arith
@@ -102,11 +102,11 @@ outcome-small already-waiting = omega arith
 outcome-small no-queue-room = omega arith
 outcome-small columns-disagree = omega arith
 
-opening-valid : (a : ℕ) (t : Tables) → Lengths t → numberOf (opening t a) ≡ 0 → Valid (ifDone (opening t a) (opened t a) t)
+opening-valid : (a : ℕ) (t : Tables) → Lengths t → actorNumber (opening t a) ≡ 0 → Valid (ifActorsDone (opening t a) (opened t a) t)
 unfolding opening
 opening-valid a t l = go (leb a (actorRoom t)) refl
   where
-    go : (b : Bool) → leb a (actorRoom t) ≡ b → numberOf (cond b Done NoRoom) ≡ 0 → Valid (ifDone (cond b Done NoRoom) (opened t a) t)
+    go : (b : Bool) → leb a (actorRoom t) ≡ b → actorNumber (cond b Done NoRoom) ≡ 0 → Valid (ifActorsDone (cond b Done NoRoom) (opened t a) t)
     go true e _ = opened-valid t a l (leb-true a (actorRoom t) e)
     go false e z = absurd (omega arith)
 
@@ -123,8 +123,8 @@ done-valid forget t v e = forgotten-valid t (v .sound)
 kept : (o : Operation) (t : Tables) → (numberOn o t ≡ 0 → ⊥) → tablesOn o t ≡ t
 kept (open-for a) t n = refused (opening t a) (opened t a) t n
 kept (add x) t n = added-refused t x n
-kept (insert-actor p) t n = refused (inserting t p) (inserted t p) t n
-kept (remove-actor p) t n = refused (removing t p) (removed t p) t n
+kept (insert-actor p) t n = refused (inserting t p) (actorInserted t p) t n
+kept (remove-actor p) t n = refused (removing t p) (actorRemoved t p) t n
 kept (load c) t n = loaded-refused t c n
 kept forget t n = absurd (n refl)
 
@@ -176,7 +176,7 @@ refused-keeps o t t′ r p n =
 -- the numbers are those of the paper's table
 numbered : (o : Operation) (t : Tables) → numberOn o t ≤ 18
 numbered (open-for a) t = small (opening t a)
-numbered (add x) t = judged-small (judged t x)
+numbered (add x) t = judged-small (tablesJudged t x)
 numbered (insert-actor p) t = small (inserting t p)
 numbered (remove-actor p) t = small (removing t p)
 numbered (load c) t = outcome-small (loading t c)

@@ -8,12 +8,12 @@ use Rattle.paper.specs.Adding.{Change}
 use Rattle.paper.specs.Loading.{Columns}
 use Rattle.tables.specs.Tables.{Tables}
 use Rattle.tables.specs.Valid.{Lengths, Valid}
-use Rattle.judge.specs.Judge.{judged, numberOf}
+use Rattle.judge.specs.Judge.{tablesJudged, judgedNumber}
 use Rattle.actors.specs.Actors as actors
-use Rattle.actors.specs.Actors.{opening, opened, inserting, inserted, removing, removed, ifDone}
+use Rattle.actors.specs.Actors.{opening, opened, inserting, actorInserted, removing, actorRemoved, ifActorsDone}
 use Rattle.cache.specs.Cache.{forgotten}
 use Rattle.cache.specs.RowLaws.{with-clocks}
-use Rattle.graph.specs.Place.{added}
+use Rattle.graph.specs.Place.{addedTables}
 use Rattle.load.specs.Load.{loading, loaded}
 use Rattle.edges.specs.Told.{Checked}
 
@@ -38,19 +38,19 @@ Lendable forget = Valid
 
 -- the number on tables that may be lent
 abbrev pub numberOn : Operation → Tables → ℕ
-numberOn (open-for a) t = actors.numberOf (opening t a)
-numberOn (add x) t = numberOf (judged t x)
-numberOn (insert-actor p) t = actors.numberOf (inserting t p)
-numberOn (remove-actor p) t = actors.numberOf (removing t p)
+numberOn (open-for a) t = actors.actorNumber (opening t a)
+numberOn (add x) t = judgedNumber (tablesJudged t x)
+numberOn (insert-actor p) t = actors.actorNumber (inserting t p)
+numberOn (remove-actor p) t = actors.actorNumber (removing t p)
 numberOn (load c) t = number (loading t c)
 numberOn forget t = 0
 
 -- the tables afterwards
 abbrev pub tablesOn : Operation → Tables → Tables
-tablesOn (open-for a) t = ifDone (opening t a) (opened t a) t
-tablesOn (add x) t = added t x
-tablesOn (insert-actor p) t = ifDone (inserting t p) (inserted t p) t
-tablesOn (remove-actor p) t = ifDone (removing t p) (removed t p) t
+tablesOn (open-for a) t = ifActorsDone (opening t a) (opened t a) t
+tablesOn (add x) t = addedTables t x
+tablesOn (insert-actor p) t = ifActorsDone (inserting t p) (actorInserted t p) t
+tablesOn (remove-actor p) t = ifActorsDone (removing t p) (actorRemoved t p) t
 tablesOn (load c) t = loaded t c
 tablesOn forget t = with-clocks t (forgotten t)
 

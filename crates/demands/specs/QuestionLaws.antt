@@ -12,7 +12,7 @@ use Rattle.paper.proofs.Bools.{by-bool}
 use Rattle.paper.specs.Graph.{Graph, change-at, owner}
 use Rattle.tables.specs.Tables.{Tables, graph}
 use Rattle.tables.specs.Valid.{Lengths, Valid}
-use Rattle.answer_buffer.specs.Answers.{listed, filled, whole-list, one-hash, node-hash, node-hash-filled}
+use Rattle.answer_buffer.specs.Answers.{listAnswer, filled, whole-list, one-hash, node-hash, node-hash-filled}
 use Rattle.answer_buffer.specs.declared.Listed.{Listed}
 use Rattle.answer_buffer.specs.declared.Listed.the-variants.{Done, Malformed, NotFound, NoOwner, Short}
 use Rattle.lookups.specs.Lookups.{actor-list}
@@ -21,7 +21,7 @@ use Rattle.list_clock.specs.Clocks.{whole-clock, clock-told, clock-filled}
 use Rattle.op_clock.specs.OpClocks.{whole-op-clock, op-clock-told, op-clock-filled}
 use Rattle.missing.specs.Missing.{missing-hashes, missing-told, missing-filled}
 use Rattle.deps.specs.Deps.{hash-deps, deps-told, deps-filled}
-use Rattle.ancestors.specs.Ancestors.{removed, removed-told, removed-filled}
+use Rattle.ancestors.specs.Ancestors.{outside-bytes, removed-told, removed-filled}
 use Rattle.hub_list_clock.specs.Operations.{ClockOf}
 use Rattle.hub_op_clock.specs.Operations.{ClockAt}
 use Rattle.hub_missing.specs.Operations.{MissingFrom}
@@ -31,17 +31,17 @@ use Rattle.hub_hashes.specs.Operations.{IndexToHash, HashForActorSeq}
 use Rattle.hub_deps.specs.Operations.{DepsForHash}
 use Rattle.hub_ancestors.specs.Operations.{RemoveAncestors}
 use Rattle.hub_sizes.specs.Operations.{ActorIds, whichOf}
-use Rattle.hub_answer.specs.Asks.{Reply, gives, refuses, numberOf, toldBy, ofListed, Asks, Tells}
+use Rattle.hub_answer.specs.Asks.{Reply, gives, refuses, replyNumber, toldBy, ofListed, Asks, Tells}
 use Rattle.demands.specs.Operations.{Operation, open-for, Promised, Runs}
 use Rattle.demands.specs.Demands.{stable, demand-3}
 use Rattle.demands.specs.Questions.{Question, clock-of, clock-at, missing-from, owner-of, heads, head-indexes, index-to-hash, hash-for-actor-seq, deps-for-hash, actor-ids, remove-ancestors, answerOn, bufferOn, Answers}
 
 -- a refusal's number is not 0
 abbrev refusedWith : Listed → Type 0
-refusedWith l = numberOf (ofListed l) ≡ 0 → ⊥
+refusedWith l = replyNumber (ofListed l) ≡ 0 → ⊥
 
-list-kept : (l out : List ℕ) → refusedWith (listed l (length out)) → filled l out ≡ out
-unfolding listed filled
+list-kept : (l out : List ℕ) → refusedWith (listAnswer l (length out)) → filled l out ≡ out
+unfolding listAnswer filled
 list-kept l out = go (leb (length l) (length out))
   where
     go : (b : Bool) → refusedWith (cond b (Done (length l)) Short) → cond b (l ++ drop (length l) out) out ≡ out
@@ -54,35 +54,35 @@ either-kept true a c x out k n = k n
 either-kept false a c x out k n = refl
 
 -- the table itself is shown, or the list goes into the buffer
-table-kept : (b : Bool) (n : ℕ) (l out : List ℕ) → refusedWith (cond b (Done n) (listed l (length out))) → cond b out (filled l out) ≡ out
+table-kept : (b : Bool) (n : ℕ) (l out : List ℕ) → refusedWith (cond b (Done n) (listAnswer l (length out))) → cond b out (filled l out) ≡ out
 table-kept true n l out z = refl
 table-kept false n l out z = list-kept l out z
 
 node-kept : (g : Graph) (k : ℕ) (c : Listed) (out : List ℕ) → refusedWith (node-hash g k c (length out)) → node-hash-filled g k out ≡ out
 unfolding node-hash node-hash-filled
-node-kept g k c out = either-kept (ltb k (g .size)) (listed (g .hash k) (length out)) c (filled (g .hash k) out) out (list-kept (g .hash k) out)
+node-kept g k c out = either-kept (ltb k (g .size)) (listAnswer (g .hash k) (length out)) c (filled (g .hash k) out) out (list-kept (g .hash k) out)
 
 kept : (q : Question) (t : Tables) (out : List ℕ) → refusedWith (answerOn q (length out) t) → bufferOn q out t ≡ out
 unfolding clock-told clock-filled op-clock-told op-clock-filled missing-told missing-filled deps-told deps-filled removed-told removed-filled
-kept (clock-of l) t out = either-kept (whole-list l) (listed (whole-clock t l) (length out)) Malformed (filled (whole-clock t l) out) out (list-kept (whole-clock t l) out)
-kept (clock-at l) t out = either-kept (whole-list l) (listed (whole-op-clock t l) (length out)) Malformed (filled (whole-op-clock t l) out) out (list-kept (whole-op-clock t l) out)
+kept (clock-of l) t out = either-kept (whole-list l) (listAnswer (whole-clock t l) (length out)) Malformed (filled (whole-clock t l) out) out (list-kept (whole-clock t l) out)
+kept (clock-at l) t out = either-kept (whole-list l) (listAnswer (whole-op-clock t l) (length out)) Malformed (filled (whole-op-clock t l) out) out (list-kept (whole-op-clock t l) out)
 kept (missing-from have) t out =
     let l = missing-hashes (graph t) have in
     let all = Done (32 * graph t .size) in
     let none = eqb (length have) 0 in
-    either-kept (whole-list have) (cond none all (listed l (length out))) Malformed (cond none out (filled l out)) out (table-kept none (32 * graph t .size) l out)
+    either-kept (whole-list have) (cond none all (listAnswer l (length out))) Malformed (cond none out (filled l out)) out (table-kept none (32 * graph t .size) l out)
 kept (owner-of a c) t out = node-kept (graph t) (owner (graph t) a c) NoOwner out
 kept heads t out = list-kept (head-hashes (graph t)) out
 kept head-indexes t out = list-kept (head-places (graph t)) out
 kept (index-to-hash k) t out = node-kept (graph t) k NotFound out
 kept (hash-for-actor-seq a q) t out = node-kept (graph t) (change-at (graph t) a q) NotFound out
-kept (deps-for-hash h) t out = either-kept (one-hash h) (listed (hash-deps (graph t) h) (length out)) Malformed (filled (hash-deps (graph t) h) out) out (list-kept (hash-deps (graph t) h) out)
+kept (deps-for-hash h) t out = either-kept (one-hash h) (listAnswer (hash-deps (graph t) h) (length out)) Malformed (filled (hash-deps (graph t) h) out) out (list-kept (hash-deps (graph t) h) out)
 kept (actor-ids w) t out = list-kept (actor-list t w) out
 kept (remove-ancestors l hs) t out =
-    let r = removed (graph t) l hs in
-    either-kept (whole-list l && whole-list hs) (listed r (length out)) Malformed (filled r out) out (list-kept r out)
+    let r = outside-bytes (graph t) l hs in
+    either-kept (whole-list l && whole-list hs) (listAnswer r (length out)) Malformed (filled r out) out (list-kept r out)
 
-untold : (y : Reply) (told : List ℕ) → (numberOf y ≡ 0 → ⊥) → toldBy y told ≡ told
+untold : (y : Reply) (told : List ℕ) → (replyNumber y ≡ 0 → ⊥) → toldBy y told ≡ told
 untold (gives n) told z = absurd (z refl)
 untold (refuses o) told z = refl
 
@@ -107,7 +107,7 @@ module _ (q : Question) (out told : List ℕ) (r : ℕ) (out′ told′ : List �
       let u = p .unmet invalid in
       absurd (omega (arith, u .0)))
     where
-      listed-small : (l : Listed) → numberOf (ofListed l) ≤ 18
+      listed-small : (l : Listed) → replyNumber (ofListed l) ≤ 18
       listed-small (Done n) = omega arith
       listed-small Malformed = omega arith
       listed-small NotFound = omega arith
@@ -161,16 +161,16 @@ module _ (out told : List ℕ) (r : ℕ) (out′ told′ : List ℕ) (t : Tables
 -- ---- demand 3 as it is asked from C
 
 -- a list that was answered with 0 stands in the buffer, and what lay past it stays
-list-answered : (l out : List ℕ) → 0 ≡ numberOf (ofListed (listed l (length out))) → filled l out ≡ l ++ drop (length l) out
-unfolding listed filled
+list-answered : (l out : List ℕ) → 0 ≡ replyNumber (ofListed (listAnswer l (length out))) → filled l out ≡ l ++ drop (length l) out
+unfolding listAnswer filled
 list-answered l out = go (leb (length l) (length out))
   where
-    go : (b : Bool) → 0 ≡ numberOf (ofListed (cond b (Done (length l)) Short)) → cond b (l ++ drop (length l) out) out ≡ l ++ drop (length l) out
+    go : (b : Bool) → 0 ≡ replyNumber (ofListed (cond b (Done (length l)) Short)) → cond b (l ++ drop (length l) out) out ≡ l ++ drop (length l) out
     go true e = refl
     go false e = absurd (omega arith)
 
 -- behind a test of what was lent
-tested-answered : (b : Bool) (l out : List ℕ) → 0 ≡ numberOf (ofListed (cond b (listed l (length out)) Malformed)) → cond b (filled l out) out ≡ l ++ drop (length l) out
+tested-answered : (b : Bool) (l out : List ℕ) → 0 ≡ replyNumber (ofListed (cond b (listAnswer l (length out)) Malformed)) → cond b (filled l out) out ≡ l ++ drop (length l) out
 tested-answered true l out e = list-answered l out e
 tested-answered false l out e = absurd (omega arith)
 

@@ -5,7 +5,7 @@ use Prim.Native.Nat.{ℕ}
 use lib.ListN.{length}
 use Rattle.paper.specs.Graph.{change-at, owner}
 use Rattle.tables.specs.Tables.{Tables, graph}
-use Rattle.answer_buffer.specs.Answers.{listed, filled, node-hash, node-hash-filled}
+use Rattle.answer_buffer.specs.Answers.{listAnswer, filled, node-hash, node-hash-filled}
 use Rattle.answer_buffer.specs.declared.Listed.{Listed}
 use Rattle.answer_buffer.specs.declared.Listed.the-variants.{NotFound, NoOwner}
 use Rattle.lookups.specs.Lookups.{actor-list}
@@ -38,12 +38,12 @@ answerOn (clock-of l) room t = clock-told t l room
 answerOn (clock-at l) room t = op-clock-told t l room
 answerOn (missing-from have) room t = missing-told (graph t) have room
 answerOn (owner-of a c) room t = node-hash (graph t) (owner (graph t) a c) NoOwner room
-answerOn heads room t = listed (head-hashes (graph t)) room
-answerOn head-indexes room t = listed (head-places (graph t)) room
+answerOn heads room t = listAnswer (head-hashes (graph t)) room
+answerOn head-indexes room t = listAnswer (head-places (graph t)) room
 answerOn (index-to-hash k) room t = node-hash (graph t) k NotFound room
 answerOn (hash-for-actor-seq a q) room t = node-hash (graph t) (change-at (graph t) a q) NotFound room
 answerOn (deps-for-hash h) room t = deps-told (graph t) h room
-answerOn (actor-ids w) room t = listed (actor-list t w) room
+answerOn (actor-ids w) room t = listAnswer (actor-list t w) room
 answerOn (remove-ancestors l hs) room t = removed-told (graph t) l hs room
 
 -- the buffer afterwards

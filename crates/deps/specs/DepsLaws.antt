@@ -19,7 +19,7 @@ use Rattle.tables.specs.DepsLaws.{links-end, deps-few, valid-graph}
 use Rattle.walk.specs.Marks.{Chain}
 use Rattle.walk.specs.MarkLaws.{chain-in, chain-target, chain-rest, chain-next, node-chain}
 use Rattle.list_laws.specs.Over.{over}
-use Rattle.answer_buffer.specs.Answers.{listed, filled}
+use Rattle.answer_buffer.specs.Answers.{listAnswer, filled}
 use Rattle.answer_buffer.specs.AnswerLaws.{Holds, holds-start, holds-next, holds-as, listed-done, filled-done}
 use Rattle.answer_buffer.specs.Room.{room}
 use Rattle.answer_buffer.specs.declared.Listed.the-variants.{Done, Malformed}
@@ -159,9 +159,9 @@ module _ (g : Graph) (h : List ℕ) where
     unfolding deps-filled hash-deps
     unfilled-none e out = rw (eq-eqb (length h) 32 l, le-ltb (node g h) (g .size) (omega arith)) (filled-done [] out (omega arith))
 
-    pub deps-known : (k : ℕ) → node g h ≡ k → k < g .size → (room : ℕ) → deps-told g h room ≡ listed (node-deps g k) room
+    pub deps-known : (k : ℕ) → node g h ≡ k → k < g .size → (room : ℕ) → deps-told g h room ≡ listAnswer (node-deps g k) room
     unfolding deps-told hash-deps
-    deps-known k e b room = rw (eq-eqb (length h) 32 l, lt-ltb (node g h) (g .size) (omega arith)) (ap (λ (i : ℕ). listed (node-deps g i) room) e)
+    deps-known k e b room = rw (eq-eqb (length h) 32 l, lt-ltb (node g h) (g .size) (omega arith)) (ap (λ (i : ℕ). listAnswer (node-deps g i) room) e)
 
     pub filled-known : (k : ℕ) → node g h ≡ k → k < g .size → (out : List ℕ) → deps-filled g h out ≡ filled (node-deps g k) out
     unfolding deps-filled hash-deps

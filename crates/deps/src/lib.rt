@@ -4,7 +4,7 @@ ghost use Prim.Native.Nat.{ℕ, _+_, _*_, _≤_, _<_};
 ghost use lib.ListN.{length};
 ghost use Rattle.tables.specs.Tables.{tables, graph, changes};
 ghost use Rattle.tables.specs.Valid.{Valid};
-ghost use Rattle.answer_buffer.specs.Answers.{listed, filled};
+ghost use Rattle.answer_buffer.specs.Answers.{listAnswer, filled};
 ghost use Rattle.deps.specs.Deps.{node-deps, deps-told, deps-filled};
 use answer_buffer::Listed;
 use hash::Found;
@@ -43,7 +43,7 @@ fn deps_into(
     out: &mut [u8],
 ) -> Listed
     requires { ⌜ Valid (tables (now hashes) (now nodes) (now targets) (now nexts) (now clocks) (now counts)) × (k < changes (tables (now hashes) (now nodes) (now targets) (now nexts) (now clocks) (now counts))) ⌝ }
-    ensures { λ r. ⌜ r ≡ listed (node-deps (graph (tables (now (hashes .entry)) (now (nodes .entry)) (now (targets .entry)) (now (nexts .entry)) (now (clocks .entry)) (now (counts .entry)))) k) (length (now (out .entry))) ⌝ }
+    ensures { λ r. ⌜ r ≡ listAnswer (node-deps (graph (tables (now (hashes .entry)) (now (nodes .entry)) (now (targets .entry)) (now (nexts .entry)) (now (clocks .entry)) (now (counts .entry)))) k) (length (now (out .entry))) ⌝ }
     ensures { λ _. ⌜ now (out .exit) ≡ filled (node-deps (graph (tables (now (hashes .entry)) (now (nodes .entry)) (now (targets .entry)) (now (nexts .entry)) (now (clocks .entry)) (now (counts .entry)))) k) (now (out .entry)) ⌝ }
 {
     let count = count_deps(hashes, nodes, targets, nexts, clocks, counts, k);

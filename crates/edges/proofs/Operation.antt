@@ -55,7 +55,7 @@ use denote.Triple.Walked.{Stays, stay-none, stay-none-slice, gave-slice, walkOf,
 use denote.Exit.{yes}
 use Rattle.tables.specs.Tables.{Tables as Tables′, tables, edgeRoom}
 use Rattle.edges.specs.Edges as E
-use Rattle.edges.specs.Told.{Asked, Told, Beyond, asked-lent, told-lent, told-beside}
+use Rattle.edges.specs.Told.{AskedOverFirst, OverFirst, Beyond, asked-lent, told-lent, told-beside}
 use Rattle.edges.specs.declared.Edge.{Edge}
 use Rattle.edges.proofs.Edge as T
 use Rattle.edges.proofs.LocalArray as L
@@ -171,23 +171,23 @@ module _ {M : Type 1} (𝓤 : URA M) (H : Heap 𝓤) (𝓜 : Model 𝓤 H) (𝓖
       (walked 𝓤 H (𝓖 .A) (ended ps) (stays ps) c (WpFn 𝓤 H entries turns fn) (spells ps) (tell ps) (λ κs qs bounds a g are. via 𝓤 _ (fst∗ 𝓤 _ (c κs a .requires g)) (walk (fmOf 𝓤 H (W .laws) 𝓣) κs qs a g are))))
 
 -- ---- a local table. It has room, as every slice must
-room-n : Room u32 E.room
+room-n : Room u32 E.localRoom
 room-n = (lit< tt, lit< tt)
 
 abbrev pub table : List ℕ → ℕ → Fml
-table xs l = partAt (Array u32 E.room) fullShare xs l 0
+table xs l = partAt (Array u32 E.localRoom) fullShare xs l 0
 
 -- the local, once zeros are stored
 abbrev pub zeros : ℕ → Fml
-zeros l = fat fullShare (tyArray (tyInt w32) E.room) l 0 (L.zeros E.room)
+zeros l = fat fullShare (tyArray (tyInt w32) E.localRoom) l 0 (L.zeros E.localRoom)
 
 -- the table, lent for the lifetime ν
 abbrev pub local : ℕ → ℕ → GName → List ℕ → Slice u32
-local ν l δ xs = record { κ = ν ∷ []; q = fullShare; at = L.at-list l δ xs; count = E.room }
+local ν l δ xs = record { κ = ν ∷ []; q = fullShare; at = L.at-list l δ xs; count = E.localRoom }
 
 -- what the lender keeps
 abbrev pub lender : ℕ → ℕ → GName → Fml
-lender ν l δ = flent (ν ∷ []) (Held u32 E.room l 0 δ)
+lender ν l δ = flent (ν ∷ []) (Held u32 E.localRoom l 0 δ)
 
 abbrev pub sharer : ℕ → ℕ → List ℕ → Fml
 sharer ν l xs = flent (ν ∷ []) (arr-parts (sharing u32) (length xs) .part fullShare xs l 0)
@@ -197,23 +197,23 @@ token ν = flft (ν ∷ []) fullShare
 
 module _ {M : Type 1} {𝓤 : URA M} {H : Heap 𝓤} {A : Atoms 𝓤} {K : Type 0} {W : Given 𝓤 H A} {Γ : List (Item 𝓤)} {G : Goal 𝓤 H} where
   made : (l : ℕ) → K → Step K W (‵ (table E.blank l) ∷ Γ) G (‵ (zeros l) ∷ Γ) G
-  made l t = use1 W (‵ (table E.blank l)) (L.made 𝓤 H A W (named 1) E.room l)
+  made l t = use1 W (‵ (table E.blank l)) (L.made 𝓤 H A W (named 1) E.localRoom l)
 
-  pub lends : (xs : List ℕ) (l : ℕ) → K → Soaks G → ((ν : ℕ) (δ : GName) → length xs ≡ E.room → Seq K W (‵ (token ν) ∷ ‵ (own (mut-at (local ν l δ xs))) ∷ ‵ (lender ν l δ) ∷ Γ) G) → Seq K W (‵ (table xs l) ∷ Γ) G
+  pub lends : (xs : List ℕ) (l : ℕ) → K → Soaks G → ((ν : ℕ) (δ : GName) → length xs ≡ E.localRoom → Seq K W (‵ (token ν) ∷ ‵ (own (mut-at (local ν l δ xs))) ∷ ‵ (lender ν l δ) ∷ Γ) G) → Seq K W (‵ (table xs l) ∷ Γ) G
   lends xs l t z k = lft-new t z (λ ν. move t (1 ∷ []) $
-      use1 W (later (some (λ (δ : GName). given (length xs ≡ E.room) (‵ (own (mut-at (local ν l δ xs))) ⊛ ‵ (lender ν l δ))))) (L.lends-array 𝓤 H A W (named 1) E.room (ν ∷ []) l room-n xs) $
+      use1 W (later (some (λ (δ : GName). given (length xs ≡ E.localRoom) (‵ (own (mut-at (local ν l δ xs))) ⊛ ‵ (lender ν l δ))))) (L.lends-array 𝓤 H A W (named 1) E.localRoom (ν ∷ []) l room-n xs) $
       await t z $ pick t (λ δ. learn t (λ long. split t $ move t (2 ∷ []) $ k ν δ long)))
 
   pub back : (ν l : ℕ) (δ : GName) (zs : List ℕ) → K → Soaks G → Step K W (‵ (table zs l) ∷ Γ) G (‵ (token ν) ∷ ‵ (lender ν l δ) ∷ ‵ (finally u32 δ zs) ∷ Γ) G
-  back ν l δ zs t z = step (λ s. lft-end t z $ use3 W (later (‵ (table zs l))) (L.array-back 𝓤 H A W (named 1) E.room (ν ∷ []) l room-n δ zs) $ await t z $ s)
+  back ν l δ zs t z = step (λ s. lft-end t z $ use3 W (later (‵ (table zs l))) (L.array-back 𝓤 H A W (named 1) E.localRoom (ν ∷ []) l room-n δ zs) $ await t z $ s)
 
-  pub shares : (xs : List ℕ) (l : ℕ) → K → Soaks G → ((ν : ℕ) (δ : GName) → length xs ≡ E.room → Seq K W (‵ (token ν) ∷ ‵ (own (shr-at (local ν l δ xs))) ∷ ‵ (sharer ν l xs) ∷ Γ) G) → Seq K W (‵ (table xs l) ∷ Γ) G
+  pub shares : (xs : List ℕ) (l : ℕ) → K → Soaks G → ((ν : ℕ) (δ : GName) → length xs ≡ E.localRoom → Seq K W (‵ (token ν) ∷ ‵ (own (shr-at (local ν l δ xs))) ∷ ‵ (sharer ν l xs) ∷ Γ) G) → Seq K W (‵ (table xs l) ∷ Γ) G
   shares xs l t z k = lft-new t z (λ ν. move t (1 ∷ []) $
-      use1 W (later (some (λ (δ : GName). given (length xs ≡ E.room) (‵ (own (shr-at (local ν l δ xs))) ⊛ ‵ (sharer ν l xs))))) (L.shares-array 𝓤 H A W (named 1) E.room (ν ∷ []) l room-n xs) $
+      use1 W (later (some (λ (δ : GName). given (length xs ≡ E.localRoom) (‵ (own (shr-at (local ν l δ xs))) ⊛ ‵ (sharer ν l xs))))) (L.shares-array 𝓤 H A W (named 1) E.localRoom (ν ∷ []) l room-n xs) $
       await t z $ pick t (λ δ. learn t (λ long. split t $ move t (2 ∷ []) $ k ν δ long)))
 
-  pub shut : (ν l : ℕ) (xs : List ℕ) → length xs ≡ E.room → K → Soaks G → Step K W (‵ (table xs l) ∷ Γ) G (‵ (token ν) ∷ ‵ (sharer ν l xs) ∷ Γ) G
-  shut ν l xs long t z = step (λ s. lft-end t z $ use2 W (later (‵ (table xs l))) (L.array-shut 𝓤 H A W (named 1) E.room (ν ∷ []) l room-n xs long) $ await t z $ s)
+  pub shut : (ν l : ℕ) (xs : List ℕ) → length xs ≡ E.localRoom → K → Soaks G → Step K W (‵ (table xs l) ∷ Γ) G (‵ (token ν) ∷ ‵ (sharer ν l xs) ∷ Γ) G
+  shut ν l xs long t z = step (λ s. lft-end t z $ use2 W (later (‵ (table xs l))) (L.array-shut 𝓤 H A W (named 1) E.localRoom (ν ∷ []) l room-n xs long) $ await t z $ s)
 
   -- a local that holds something is freed: the entry p and the one behind it; and one that is a table, at the head
   pub frees : K → {τ : Ty} {b : ℕ} {v : Val} {N : Env 𝓤 H} (p : ℕ) → nth 𝓤 H A p Γ ≡ ‵ (fat fullShare τ b zero v) → nth 𝓤 H A p (del 𝓤 H A p Γ) ≡ ‵ (fdies τ b) → Step K W (del 𝓤 H A p (del 𝓤 H A p Γ)) (freeing N G) Γ (freeing ((τ, b) ∷ N) G)
@@ -223,8 +223,8 @@ module _ {M : Type 1} {𝓤 : URA M} {H : Heap 𝓤} {A : Atoms 𝓤} {K : Type 
   pub takes : K → {τ : Ty} {b : ℕ} {N : Env 𝓤 H} {v : Val} {vs : List Val} (p : ℕ) → nth 𝓤 H A p Γ ≡ ‵ (froom τ b zero) → Holds (hasTy τ v) × WT v → Step K W (put 𝓤 H A p (‵ (fat fullShare τ b zero v)) Γ) (passes N vs G) Γ (passes ((τ, b) ∷ N) (v ∷ vs) G)
   takes t p e typed = pass1 t (init t p e typed)
 
-  pub frees-table : (xs : List ℕ) → K → {l : ℕ} {N : Env 𝓤 H} → Step K W Γ (freeing N G) (‵ (table xs l) ∷ ‵ (fdies (tyArray (tyInt w32) E.room) l) ∷ Γ) (freeing ((tyArray (tyInt w32) E.room, l) ∷ N) G)
-  frees-table xs t {l} = step (λ s. use1 W (‵ (froom (tyArray (tyInt w32) E.room) l 0)) (L.array-room 𝓤 H A W (named 1) E.room xs l) $ free1 t $ s)
+  pub frees-table : (xs : List ℕ) → K → {l : ℕ} {N : Env 𝓤 H} → Step K W Γ (freeing N G) (‵ (table xs l) ∷ ‵ (fdies (tyArray (tyInt w32) E.localRoom) l) ∷ Γ) (freeing ((tyArray (tyInt w32) E.localRoom, l) ∷ N) G)
+  frees-table xs t {l} = step (λ s. use1 W (‵ (froom (tyArray (tyInt w32) E.localRoom) l 0)) (L.array-room 𝓤 H A W (named 1) E.localRoom xs l) $ free1 t $ s)
 
 -- ---- the statements of an operation. A position p is that of a local's entry
 module _ {M : Type 1} {𝓤 : URA M} {H : Heap 𝓤} {A : Atoms 𝓤} {K : Type 0} {W : Given 𝓤 H A} {Γ : List (Item 𝓤)} {N : Env 𝓤 H} where
@@ -256,16 +256,16 @@ module _ {M : Type 1} {𝓤 : URA M} {H : Heap 𝓤} {A : Atoms 𝓤} {K : Type 
     lands-over t p e typed = land t (from t (stop t)) (store t p e typed)
 
     -- a local table is made of zeros
-    pub zeroes : K → {i : ℕ} → let at = spotOf 𝓤 H N in (p : ℕ) → nth 𝓤 H A p Γ ≡ ‵ (froom (at i .0) (at i .1) zero) → at i .0 ≡ tyArray (tyInt w32) E.room
-        → Step K W (put 𝓤 H A p (‵ (fat fullShare (at i .0) (at i .1) zero (L.zeros E.room))) Γ) (runs C Λ N rest q) Γ (runs C Λ N (seq (assign (place i []) (repeat (int w32 0) E.room)) rest) q)
-    zeroes t p e is = assigns t (rep t E.room (lit t tt)) (from t (stop t)) (init t p e (subst (λ (τ : Ty). Holds (hasTy τ (L.zeros E.room)) × WT (L.zeros E.room)) (sym is) (L.zeros-typed 𝓤 H A W (named 1) E.room)))
+    pub zeroes : K → {i : ℕ} → let at = spotOf 𝓤 H N in (p : ℕ) → nth 𝓤 H A p Γ ≡ ‵ (froom (at i .0) (at i .1) zero) → at i .0 ≡ tyArray (tyInt w32) E.localRoom
+        → Step K W (put 𝓤 H A p (‵ (fat fullShare (at i .0) (at i .1) zero (L.zeros E.localRoom))) Γ) (runs C Λ N rest q) Γ (runs C Λ N (seq (assign (place i []) (repeat (int w32 0) E.localRoom)) rest) q)
+    zeroes t p e is = assigns t (rep t E.localRoom (lit t tt)) (from t (stop t)) (init t p e (subst (λ (τ : Ty). Holds (hasTy τ (L.zeros E.localRoom)) × WT (L.zeros E.localRoom)) (sym is) (L.zeros-typed 𝓤 H A W (named 1) E.localRoom)))
 
     -- a slice is made of a local table, and of a parameter that is a slice
     pub refers : K → {i j k : ℕ} → let at = spotOf 𝓤 H N in let v = vptr (at j .1) zero in let c = ‵ (fat fullShare (at i .0) (at i .1) zero v) in
         (p : ℕ) → nth 𝓤 H A p Γ ≡ ‵ (froom (at i .0) (at i .1) zero) → Holds (hasTy (at i .0) v) × WT v → nth 𝓤 H A p (put 𝓤 H A p c Γ) ≡ c
-        → (p′ : ℕ) → nth 𝓤 H A p′ (put 𝓤 H A p c Γ) ≡ ‵ (froom (at k .0) (at k .1) zero) → Holds (hasTy (at k .0) (L.s (at j .1) E.room)) × WT (L.s (at j .1) E.room)
-        → Step K W (put 𝓤 H A p′ (‵ (fat fullShare (at k .0) (at k .1) zero (L.s (at j .1) E.room))) (put 𝓤 H A p c Γ)) (runs C Λ N rest q)
-        Γ (runs C Λ N (seq (assign (place i []) (addrOf (place j []))) (seq (assign (place k []) (aggregate (copy (place i []) ∷ intBig w64 E.room ∷ []))) rest)) q)
+        → (p′ : ℕ) → nth 𝓤 H A p′ (put 𝓤 H A p c Γ) ≡ ‵ (froom (at k .0) (at k .1) zero) → Holds (hasTy (at k .0) (L.s (at j .1) E.localRoom)) × WT (L.s (at j .1) E.localRoom)
+        → Step K W (put 𝓤 H A p′ (‵ (fat fullShare (at k .0) (at k .1) zero (L.s (at j .1) E.localRoom))) (put 𝓤 H A p c Γ)) (runs C Λ N rest q)
+        Γ (runs C Λ N (seq (assign (place i []) (addrOf (place j []))) (seq (assign (place k []) (aggregate (copy (place i []) ∷ intBig w64 E.localRoom ∷ []))) rest)) q)
     refers t p e typed e₁ p′ e₂ typed′ = step (λ s. assigns t (addr t (from t (stop t))) (from t (stop t)) (init t p e typed) $
         assigns t (agg t (and-then t (load t (from t (stop t)) (look t p e₁)) (and-then t (L.lit-big t (record { fits = lit< tt })) (no-more t)))) (from t (stop t)) (init t p′ e₂ typed′) $ s)
 
@@ -296,7 +296,7 @@ module _ {M : Type 1} (𝓤 : URA M) (H : Heap 𝓤) (A : Atoms 𝓤) (mem : Mem
 pub slice-fits : {R : RattleType} (x : Lent R) → Holds (hasTy (sliceTy (tyRef erased imm (tyInt w32))) (val (of x))) × WT (val (of x))
 slice-fits x = (tt, (tt, (record { fits = x .room .0 }, tt)))
 
-pub table-fits : Holds (hasTy (sliceTy (tyRef erased imm (tyInt w32))) (L.s 0 E.room)) × WT (L.s 0 E.room)
+pub table-fits : Holds (hasTy (sliceTy (tyRef erased imm (tyInt w32))) (L.s 0 E.localRoom)) × WT (L.s 0 E.localRoom)
 table-fits = (tt, (tt, (record { fits = lit< tt }, tt)))
 
 unit-typed : (v : Val) → v ∷ [] ≡ vunit ∷ [] → Holds (hasTy tyUnit v) × WT v
@@ -304,7 +304,7 @@ unit-typed v e = subst (λ (u : Val). Holds (hasTy tyUnit u) × WT u) (sym (ap o
 
 module _ {M : Type 1} {𝓤 : URA M} {H : Heap 𝓤} {A : Atoms 𝓤} {K : Type 0} {W : Given 𝓤 H A} {Γ : List (Item 𝓤)} {N : Env 𝓤 H} {C : Calls 𝓤 H} {Λ : Loops 𝓤 H} {q : Post 𝓤 H} {f : Name} {xs : List Operand} {d : Place} {rest : Body} where
   pub unpacks : (mem : Memory → SProp 𝓤) (run : Routine → Fun 𝓤) (edges : Lent T.the-row) (l l′ : ℕ) → K → FmC 𝓤 H (W .laws) C → Triple 𝓤 (C f) (Unpack 𝓤 H A mem run)
-      → ((i j k : Item 𝓤) → Opds K W (i ∷ j ∷ k ∷ Γ) N xs (val (of edges) ∷ L.s l E.room ∷ L.s l′ E.room ∷ []))
+      → ((i j k : Item 𝓤) → Opds K W (i ∷ j ∷ k ∷ Γ) N xs (val (of edges) ∷ L.s l E.localRoom ∷ L.s l′ E.localRoom ∷ []))
       → ((v : Val) (ts zs : List ℕ) → Holds (hasTy tyUnit v) × WT v → Unpacked (elems edges) ts zs → Seq K W (‵ (table ts l) ∷ ‵ (table zs l′) ∷ ‵ (flft (edges .κ) (edges .q)) ∷ Γ) (lands C Λ N d v rest q))
       → Seq K W (‵ (zeros l) ∷ ‵ (zeros l′) ∷ ‵ (flft (edges .κ) (edges .q)) ∷ ‵ (own (shr edges)) ∷ Γ) (runs C Λ N (seq (call f xs d) rest) q)
   unpacks mem run edges l l′ t fm known os k =
@@ -318,7 +318,7 @@ module _ {M : Type 1} {𝓤 : URA M} {H : Heap 𝓤} {A : Atoms 𝓤} {K : Type 
 module _ {M : Type 1} {𝓤 : URA M} {H : Heap 𝓤} {A : Atoms 𝓤} {K : Type 0} {W : Given 𝓤 H A} {Γ : List (Item 𝓤)} {N : Env 𝓤 H} {C : Calls 𝓤 H} {Λ : Loops 𝓤 H} {q : Post 𝓤 H} {f : Name} {xs : List Operand} {d : Place} {rest : Body} where
   -- the same of edges that are held as a `&mut [Edge]`: they are lent on for the call, and come back
   pub unpacks-lent : (mem : Memory → SProp 𝓤) (run : Routine → Fun 𝓤) (edges : Lent T.the-row) (l l′ : ℕ) → K → FmC 𝓤 H (W .laws) C → Triple 𝓤 (C f) (Unpack 𝓤 H A mem run)
-      → ((i j k m : Item 𝓤) → Opds K W (i ∷ j ∷ k ∷ m ∷ Γ) N xs (val (of edges) ∷ L.s l E.room ∷ L.s l′ E.room ∷ []))
+      → ((i j k m : Item 𝓤) → Opds K W (i ∷ j ∷ k ∷ m ∷ Γ) N xs (val (of edges) ∷ L.s l E.localRoom ∷ L.s l′ E.localRoom ∷ []))
       → ((v : Val) (ts zs : List ℕ) → Holds (hasTy tyUnit v) × WT v → Unpacked (elems edges) ts zs → Seq K W (‵ (table ts l) ∷ ‵ (table zs l′) ∷ ‵ (flft (edges .κ) (edges .q)) ∷ ‵ (own (mut edges)) ∷ Γ) (lands C Λ N d v rest q))
       → Seq K W (‵ (zeros l) ∷ ‵ (zeros l′) ∷ ‵ (flft (edges .κ) (edges .q)) ∷ ‵ (own (mut edges)) ∷ Γ) (runs C Λ N (seq (call f xs d) rest) q)
   unpacks-lent mem run edges l l′ t fm known os k =
@@ -331,8 +331,8 @@ module _ {M : Type 1} {𝓤 : URA M} {H : Heap 𝓤} {A : Atoms 𝓤} {K : Type 
       move t (2 ∷ 3 ∷ 1 ∷ 0 ∷ []) $ k v ts zs typed u)))
 
   pub packs : (mem : Memory → SProp 𝓤) (run : Routine → Fun 𝓤) (edges : Lent T.the-row) (l l′ : ℕ) (ts zs : List ℕ) → K → FmC 𝓤 H (W .laws) C → Triple 𝓤 (C f) (Pack 𝓤 H A mem run)
-      → ((i j k : Item 𝓤) → Opds K W (i ∷ j ∷ k ∷ Γ) N xs (L.s l E.room ∷ L.s l′ E.room ∷ val (of edges) ∷ []))
-      → ((v : Val) (es : List Edge) → Holds (hasTy tyUnit v) × WT v → es ≡ E.packed ts zs (elems edges) → length es ≡ length (elems edges) → length ts ≡ E.room → length zs ≡ E.room
+      → ((i j k : Item 𝓤) → Opds K W (i ∷ j ∷ k ∷ Γ) N xs (L.s l E.localRoom ∷ L.s l′ E.localRoom ∷ val (of edges) ∷ []))
+      → ((v : Val) (es : List Edge) → Holds (hasTy tyUnit v) × WT v → es ≡ E.packed ts zs (elems edges) → length es ≡ length (elems edges) → length ts ≡ E.localRoom → length zs ≡ E.localRoom
       → Seq K W (‵ (table ts l) ∷ ‵ (table zs l′) ∷ ‵ (flft (edges .κ) (edges .q)) ∷ ‵ (lastOf (of edges) es) ∷ Γ) (lands C Λ N d v rest q))
       → Seq K W (‵ (table ts l) ∷ ‵ (table zs l′) ∷ ‵ (flft (edges .κ) (edges .q)) ∷ ‵ (own (mut edges)) ∷ Γ) (runs C Λ N (seq (call f xs d) rest) q)
   packs mem run edges l l′ ts zs t fm known os k =
@@ -353,20 +353,20 @@ module _ (es : List Edge) {ts xs : List ℕ} where
   taken : (P : List ℕ → List ℕ → Type 0) → Unpacked es ts xs → P ts xs → P (E.takenTargets es E.blank E.blank) (E.takenNexts es E.blank E.blank)
   taken P u c = subst (λ (l : List ℕ). P l (E.takenNexts es E.blank E.blank)) (u .0) (subst (λ (l : List ℕ). P ts l) (u .1) c)
 
-  pub asked-of : (hs ns cs us : List ℕ) {Q : Tables′ → Type 0} {refused : Type 0} → Unpacked es ts xs → Asked Q refused (length es) (tables hs ns ts xs cs us)
-      → (E.room < edgeRoom (E.lent hs ns es cs us) → refused → Q (E.lent hs ns es cs us)) → Q (E.lent hs ns es cs us)
-  asked-of hs ns cs us {Q} {refused} u c refuse = asked-lent E.room E.blank (blank-long E.room) es Q refused hs ns cs us refuse (taken (λ (ls ls′ : List ℕ). Asked Q refused (length es) (tables hs ns ls ls′ cs us)) u c)
+  pub asked-of : (hs ns cs us : List ℕ) {Q : Tables′ → Type 0} {refused : Type 0} → Unpacked es ts xs → AskedOverFirst Q refused (length es) (tables hs ns ts xs cs us)
+      → (E.localRoom < edgeRoom (E.lent hs ns es cs us) → refused → Q (E.lent hs ns es cs us)) → Q (E.lent hs ns es cs us)
+  asked-of hs ns cs us {Q} {refused} u c refuse = asked-lent E.localRoom E.blank (blank-long E.localRoom) es Q refused hs ns cs us refuse (taken (λ (ls ls′ : List ℕ). AskedOverFirst Q refused (length es) (tables hs ns ls ls′ cs us)) u c)
 
   module _ (R : Tables′ → ℕ → Tables′ → Type 0) (r : ℕ) (hs ns cs us hs′ ns′ ts′ xs′ cs′ us′ : List ℕ) {es′ : List Edge} where
-    pub told-of : Unpacked es ts xs → length ts′ ≡ E.room → length xs′ ≡ E.room → es′ ≡ E.packed ts′ xs′ es → Told R (length es) (tables hs ns ts xs cs us) r (tables hs′ ns′ ts′ xs′ cs′ us′)
-        → ((t : Tables′) → E.room < edgeRoom t → R t (number not-valid) t) → R (E.lent hs ns es cs us) r (E.lent hs′ ns′ es′ cs′ us′)
-    told-of u lt lx p c refuse = told-lent E.room E.blank (blank-long E.room) es R refuse r hs ns cs us hs′ ns′ ts′ xs′ cs′ us′ es′ lt lx p (taken (λ (ls ls′ : List ℕ). Told R (length es) (tables hs ns ls ls′ cs us) r (tables hs′ ns′ ts′ xs′ cs′ us′)) u c)
+    pub told-of : Unpacked es ts xs → length ts′ ≡ E.localRoom → length xs′ ≡ E.localRoom → es′ ≡ E.packed ts′ xs′ es → OverFirst R (length es) (tables hs ns ts xs cs us) r (tables hs′ ns′ ts′ xs′ cs′ us′)
+        → ((t : Tables′) → E.localRoom < edgeRoom t → R t (number not-valid) t) → R (E.lent hs ns es cs us) r (E.lent hs′ ns′ es′ cs′ us′)
+    told-of u lt lx p c refuse = told-lent E.localRoom E.blank (blank-long E.localRoom) es R refuse r hs ns cs us hs′ ns′ ts′ xs′ cs′ us′ es′ lt lx p (taken (λ (ls ls′ : List ℕ). OverFirst R (length es) (tables hs ns ls ls′ cs us) r (tables hs′ ns′ ts′ xs′ cs′ us′)) u c)
 
-    pub beside-of : {refused : Type 0} → Unpacked es ts xs → length ts′ ≡ E.room → length xs′ ≡ E.room → es′ ≡ E.packed ts′ xs′ es
-        → Told R (length es) (tables hs ns ts xs cs us) r (tables hs′ ns′ ts′ xs′ cs′ us′) × (Beyond (length es) (tables hs ns ts xs cs us) → refused)
-        → ((t : Tables′) → E.room < edgeRoom t → refused → R t (number not-valid) t) → R (E.lent hs ns es cs us) r (E.lent hs′ ns′ es′ cs′ us′)
-    beside-of {refused} u lt lx p c refuse = told-beside E.room E.blank (blank-long E.room) es R refused refuse r hs ns cs us hs′ ns′ ts′ xs′ cs′ us′ es′ lt lx p
-        (taken (λ (ls ls′ : List ℕ). Told R (length es) (tables hs ns ls ls′ cs us) r (tables hs′ ns′ ts′ xs′ cs′ us′) × (Beyond (length es) (tables hs ns ls ls′ cs us) → refused)) u c)
+    pub beside-of : {refused : Type 0} → Unpacked es ts xs → length ts′ ≡ E.localRoom → length xs′ ≡ E.localRoom → es′ ≡ E.packed ts′ xs′ es
+        → OverFirst R (length es) (tables hs ns ts xs cs us) r (tables hs′ ns′ ts′ xs′ cs′ us′) × (Beyond (length es) (tables hs ns ts xs cs us) → refused)
+        → ((t : Tables′) → E.localRoom < edgeRoom t → refused → R t (number not-valid) t) → R (E.lent hs ns es cs us) r (E.lent hs′ ns′ es′ cs′ us′)
+    beside-of {refused} u lt lx p c refuse = told-beside E.localRoom E.blank (blank-long E.localRoom) es R refused refuse r hs ns cs us hs′ ns′ ts′ xs′ cs′ us′ es′ lt lx p
+        (taken (λ (ls ls′ : List ℕ). OverFirst R (length es) (tables hs ns ls ls′ cs us) r (tables hs′ ns′ ts′ xs′ cs′ us′) × (Beyond (length es) (tables hs ns ls ls′ cs us) → refused)) u c)
 
 -- ---- the core: a call whose result is a u32, which is then of the type of the local that it goes to
 module _ {M : Type 1} {𝓤 : URA M} {H : Heap 𝓤} {A : Atoms 𝓤} {K : Type 0} (W : Given 𝓤 H A) {Γ : List (Item 𝓤)} where

@@ -54,11 +54,11 @@ abbrev pub packed : List ℕ → List ℕ → List Edge → List Edge
 packed ts xs es = onto (common es ts xs) (edgesOf ts xs) es
 
 -- the two local tables of an operation: room for as many edges as a graph may have, and zeros at first
-abbrev pub room : ℕ
-room = 16384
+abbrev pub localRoom : ℕ
+localRoom = 16384
 
 abbrev pub blank : List ℕ
-blank = replicate room 0
+blank = replicate localRoom 0
 
 -- ---- the walk along next
 
@@ -71,8 +71,8 @@ abbrev pub parents : List Edge → ℕ → List ℕ
 parents es first = along (targetsOf es) (map (inside (length es)) (nextsOf es)) (inside (length es) first)
 
 -- as many of them as the table out has room for
-abbrev pub listed : List Edge → ℕ → List ℕ → List ℕ
-listed es first out = take (length out) (parents es first)
+abbrev pub parentsIn : List Edge → ℕ → List ℕ → List ℕ
+parentsIn es first out = take (length out) (parents es first)
 
 -- a walk that has met n edges goes on at `at`
 abbrev pub goesOn : ℕ → ℕ → ℕ → ℕ → Bool

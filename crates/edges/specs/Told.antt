@@ -26,14 +26,14 @@ Beyond e t = (length (t .targets) < e) ⊎ (length (t .nexts) < e)
 
 -- R, of the tables before, the number and the tables after, holds of the first e edges, and what lies past them stays.
 -- Where a table has no room for e edges the number is 1 and nothing changes
-pub record Told (R : Tables → ℕ → Tables → Type 0) (e : ℕ) (t : Tables) (r : ℕ) (t′ : Tables) : Type 0 where
+pub record OverFirst (R : Tables → ℕ → Tables → Type 0) (e : ℕ) (t : Tables) (r : ℕ) (t′ : Tables) : Type 0 where
   pub within : e ≤ length (t .targets) → e ≤ length (t .nexts) → R (cut e t) r (cut e t′)
   pub rest-targets : drop e (t′ .targets) ≡ drop e (t .targets)
   pub rest-nexts : drop e (t′ .nexts) ≡ drop e (t .nexts)
   pub beyond : (length (t .targets) < e) ⊎ (length (t .nexts) < e) → (r ≡ number not-valid) × (t′ ≡ t)
 
 -- the same of a question, which changes no table: Q holds of the first e edges, and where a table has no room for them the refusal holds
-pub record Asked (Q : Tables → Type 0) (refused : Type 0) (e : ℕ) (t : Tables) : Type 0 where
+pub record AskedOverFirst (Q : Tables → Type 0) (refused : Type 0) (e : ℕ) (t : Tables) : Type 0 where
   pub within : e ≤ length (t .targets) → e ≤ length (t .nexts) → Q (cut e t)
   pub beyond : (length (t .targets) < e) ⊎ (length (t .nexts) < e) → refused
 
@@ -84,7 +84,7 @@ module _ (P : Tables → Type 0) (bounding : Bounding P) (t : Tables) (l : 16384
 -- ---- how a core that is told of e edges keeps its promise: it hands the first e of each table on
 
 module _ (R : Tables → ℕ → Tables → Type 0) (e : ℕ) where
-  pub told-none : (t : Tables) → (length (t .targets) < e) ⊎ (length (t .nexts) < e) → Told R e t (number not-valid) t
+  pub told-none : (t : Tables) → (length (t .targets) < e) ⊎ (length (t .nexts) < e) → OverFirst R e t (number not-valid) t
   told-none t o = record {
     within = λ a b. absurd (⊎-elim (λ (l : length (t .targets) < e). beyond-all a l) (λ (l : length (t .nexts) < e). beyond-all b l) o);
     rest-targets = refl;
@@ -103,7 +103,7 @@ module _ (R : Tables → ℕ → Tables → Type 0) (e : ℕ) where
     drop-part l k q = subst (λ (n : ℕ). drop n (l ++ k) ≡ k) q (drop-left l k)
 
     pub told-part : (hs ns cs us hs′ ns′ cs′ us′ : List ℕ) (r : ℕ) → R (tables hs ns (take e ts) (take e xs) cs us) r (tables hs′ ns′ ts′ xs′ cs′ us′)
-        → Told R e (tables hs ns ts xs cs us) r (tables hs′ ns′ (ts′ ++ drop e ts) (xs′ ++ drop e xs) cs′ us′)
+        → OverFirst R e (tables hs ns ts xs cs us) r (tables hs′ ns′ (ts′ ++ drop e ts) (xs′ ++ drop e xs) cs′ us′)
     told-part hs ns cs us hs′ ns′ cs′ us′ r p = record {
       within = λ _ _. subst (λ (t : Tables). R (tables hs ns (take e ts) (take e xs) cs us) r t) (sym (same-tables refl refl (take-part ts′ (drop e ts) lt) (take-part xs′ (drop e xs) lx) refl refl)) p;
       rest-targets = drop-part ts′ (drop e ts) lt;
@@ -115,13 +115,13 @@ module _ (R : Tables → ℕ → Tables → Type 0) (e : ℕ) where
         out a l = omega arith
 
 module _ (Q : Tables → Type 0) (refused : Type 0) (e : ℕ) (t : Tables) where
-  pub asked-none : (length (t .targets) < e) ⊎ (length (t .nexts) < e) → refused → Asked Q refused e t
+  pub asked-none : (length (t .targets) < e) ⊎ (length (t .nexts) < e) → refused → AskedOverFirst Q refused e t
   asked-none o why = record { within = λ a b. absurd (⊎-elim (λ (l : length (t .targets) < e). out a l) (λ (l : length (t .nexts) < e). out b l) o); beyond = λ _. why }
     where
       out : {m : ℕ} → e ≤ m → m < e → ⊥
       out a l = omega arith
 
-  pub asked-part : e ≤ length (t .targets) → e ≤ length (t .nexts) → Q (cut e t) → Asked Q refused e t
+  pub asked-part : e ≤ length (t .targets) → e ≤ length (t .nexts) → Q (cut e t) → AskedOverFirst Q refused e t
   asked-part a b q = record { within = λ _ _. q; beyond = λ o. absurd (⊎-elim (λ (l : length (t .targets) < e). out a l) (λ (l : length (t .nexts) < e). out b l) o) }
     where
       out : {m : ℕ} → e ≤ m → m < e → ⊥
@@ -177,7 +177,7 @@ module _ (room : ℕ) (blank : List ℕ) (long : length blank ≡ room) (es : Li
   -- an operation that changes the tables
   pub told-lent : (R : Tables → ℕ → Tables → Type 0) → ((t : Tables) → room < edgeRoom t → R t (number not-valid) t)
       → (r : ℕ) (hs ns cs us hs′ ns′ ts′ xs′ cs′ us′ : List ℕ) (es′ : List Edge) → length ts′ ≡ room → length xs′ ≡ room → es′ ≡ packed ts′ xs′ es
-      → Told R (length es) (tables hs ns ts xs cs us) r (tables hs′ ns′ ts′ xs′ cs′ us′) → R (lent hs ns es cs us) r (lent hs′ ns′ es′ cs′ us′)
+      → OverFirst R (length es) (tables hs ns ts xs cs us) r (tables hs′ ns′ ts′ xs′ cs′ us′) → R (lent hs ns es cs us) r (lent hs′ ns′ es′ cs′ us′)
   told-lent R refuse r hs ns cs us hs′ ns′ ts′ xs′ cs′ us′ es′ lt lx p c = elim (decLt room (length es)) [
     | yes l ↦ (
         let o = c .beyond (inl (let g = targets-room in omega arith)) in
@@ -196,7 +196,7 @@ module _ (room : ℕ) (blank : List ℕ) (long : length blank ≡ room) (es : Li
   -- one that changes other lent memory too: its core says beside what becomes of that where there is no room for the edges
   pub told-beside : (R : Tables → ℕ → Tables → Type 0) (refused : Type 0) → ((t : Tables) → room < edgeRoom t → refused → R t (number not-valid) t)
       → (r : ℕ) (hs ns cs us hs′ ns′ ts′ xs′ cs′ us′ : List ℕ) (es′ : List Edge) → length ts′ ≡ room → length xs′ ≡ room → es′ ≡ packed ts′ xs′ es
-      → Told R (length es) (tables hs ns ts xs cs us) r (tables hs′ ns′ ts′ xs′ cs′ us′) × (Beyond (length es) (tables hs ns ts xs cs us) → refused) → R (lent hs ns es cs us) r (lent hs′ ns′ es′ cs′ us′)
+      → OverFirst R (length es) (tables hs ns ts xs cs us) r (tables hs′ ns′ ts′ xs′ cs′ us′) × (Beyond (length es) (tables hs ns ts xs cs us) → refused) → R (lent hs ns es cs us) r (lent hs′ ns′ es′ cs′ us′)
   told-beside R refused refuse r hs ns cs us hs′ ns′ ts′ xs′ cs′ us′ es′ lt lx p c =
       told-lent (λ (t : Tables) (m : ℕ) (t′ : Tables). (room < edgeRoom t → refused) → R t m t′) (λ t l w. refuse t l (w l)) r hs ns cs us hs′ ns′ ts′ xs′ cs′ us′ es′ lt lx p
       (record { within = λ a b _. c .0 .within a b; rest-targets = c .0 .rest-targets; rest-nexts = c .0 .rest-nexts; beyond = c .0 .beyond })
@@ -204,7 +204,7 @@ module _ (room : ℕ) (blank : List ℕ) (long : length blank ≡ room) (es : Li
 
   -- a question
   pub asked-lent : (Q : Tables → Type 0) (refused : Type 0) (hs ns cs us : List ℕ) → (room < edgeRoom (lent hs ns es cs us) → refused → Q (lent hs ns es cs us))
-      → Asked Q refused (length es) (tables hs ns ts xs cs us) → Q (lent hs ns es cs us)
+      → AskedOverFirst Q refused (length es) (tables hs ns ts xs cs us) → Q (lent hs ns es cs us)
   asked-lent Q refused hs ns cs us refuse c = elim (decLt room (length es)) [
     | yes l ↦ refuse (let g = targets-long es in omega arith) (c .beyond (inl (let g = targets-room in omega arith)))
     | no l ↦ subst Q (cut-lent (omega arith) hs ns cs us) (c .within (let g = targets-room in omega arith) (let g = nexts-room in omega arith))

@@ -18,7 +18,7 @@ use Rattle.tables.specs.Valid.Run.{last, more}
 use Rattle.tables.specs.LaidLaws.{NodeLaid, run-grows}
 use Rattle.tables.specs.LaidLaws.NodeLaid.{no-list, a-list}
 use Rattle.tables.specs.DepsLaws.{links-end, deps-at}
-use Rattle.edges.specs.Edges.{noEdge, targetsOf, nextsOf, lent, inside, parents, listed, goesOn}
+use Rattle.edges.specs.Edges.{noEdge, targetsOf, nextsOf, lent, inside, parents, parentsIn, goesOn}
 use Rattle.edges.specs.EdgesLaws.{targets-long, target-at, next-at, one-less}
 use Rattle.edges.specs.declared.Edge.{Edge}
 
@@ -95,7 +95,7 @@ pub record Walking (es : List Edge) (first : ℕ) (ws₀ : List ℕ) (at n k : �
   pub sum : n + k ≡ min (length es) (length ws₀)
   pub long : length ws ≡ length ws₀
   pub rest : drop n ws ≡ drop n ws₀
-  pub walked : listed es first ws₀ ≡ take n ws ++ left es at k
+  pub walked : parentsIn es first ws₀ ≡ take n ws ++ left es at k
 
 pub walking-start : (es : List Edge) (first : ℕ) (ws₀ : List ℕ) → first < 2 ^ 32 → Walking es first ws₀ first 0 (min (length es) (length ws₀)) ws₀
 walking-start es first ws₀ l =
@@ -136,10 +136,10 @@ module _ (es : List Edge) (first : ℕ) (ws₀ : List ℕ) (at n k : ℕ) (ws : 
   walking-more t = let y = goes-yes at n (length es) (length ws) t in one-less k (omega (arith, st .sum, st .long, y .2, y .3))
 
   -- the walk has ended: what is put down is all of it
-  pub walking-end : T (not (goesOn at n (length es) (length ws))) → (n ≡ length (listed es first ws₀)) × (ws ≡ listed es first ws₀ ++ drop n ws₀)
+  pub walking-end : T (not (goesOn at n (length es) (length ws))) → (n ≡ length (parentsIn es first ws₀)) × (ws ≡ parentsIn es first ws₀ ++ drop n ws₀)
   walking-end t =
-      let a : listed es first ws₀ ≡ take n ws = st .walked ∙ ap (λ (r : List ℕ). take n ws ++ r) (left-stop es at n (length ws) k t (st .sum ∙ ap (λ (m : ℕ). min (length es) m) (sym (st .long)))) ∙ append-nil (take n ws) in
-      (sym (ap length a ∙ short), sym (take-append-drop n ws) ∙ ap (λ (r : List ℕ). r ++ drop n ws) (sym a) ∙ ap (λ (r : List ℕ). listed es first ws₀ ++ r) (st .rest))
+      let a : parentsIn es first ws₀ ≡ take n ws = st .walked ∙ ap (λ (r : List ℕ). take n ws ++ r) (left-stop es at n (length ws) k t (st .sum ∙ ap (λ (m : ℕ). min (length es) m) (sym (st .long)))) ∙ append-nil (take n ws) in
+      (sym (ap length a ∙ short), sym (take-append-drop n ws) ∙ ap (λ (r : List ℕ). r ++ drop n ws) (sym a) ∙ ap (λ (r : List ℕ). parentsIn es first ws₀ ++ r) (st .rest))
     where
       short : length (take n ws) ≡ n
       short = omega (arith, st .sum, st .long, length-drop n ws, length-append (take n ws) (drop n ws), ap length (take-append-drop n ws))

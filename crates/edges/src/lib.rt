@@ -4,7 +4,7 @@ ghost use mathlib.Core.Path.{_≡_};
 ghost use mathlib.Core.List.{_++_};
 ghost use Prim.Native.Nat.{ℕ, _<_, _≤_, _-_, min};
 ghost use lib.ListN.{length, set, getD, drop};
-ghost use Rattle.edges.specs.Edges.{noEdge, edge, takenTargets, takenNexts, packed, goesOn, listed};
+ghost use Rattle.edges.specs.Edges.{noEdge, edge, takenTargets, takenNexts, packed, goesOn, parentsIn};
 
 // An edge: the node that it leads to, and the number + 1 of the next edge of its list, or 0 at the end.
 #[repr(C)]
@@ -102,7 +102,7 @@ fn step(edges: &[Edge], at: u32, out: &mut [u32], n: usize) -> u32
 // The targets along next from the edge `first` - 1, in order, and how many they are: as many as `out` has room for.
 // A list that runs in a ring ends once as many edges were met as there are; one that leaves the table ends there.
 pub fn parents_into(edges: &[Edge], first: u32, out: &mut [u32]) -> usize
-    ensures { λ r. ⌜ (r ≡ length (listed (now (edges .entry)) first (now (out .entry)))) × (now (out .exit) ≡ listed (now (edges .entry)) first (now (out .entry)) ++ drop r (now (out .entry))) ⌝ }
+    ensures { λ r. ⌜ (r ≡ length (parentsIn (now (edges .entry)) first (now (out .entry)))) × (now (out .exit) ≡ parentsIn (now (edges .entry)) first (now (out .entry)) ++ drop r (now (out .entry))) ⌝ }
 {
     let mut at = first;
     let mut n: usize = 0;

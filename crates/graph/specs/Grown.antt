@@ -23,7 +23,7 @@ use Rattle.tables.specs.LaidLaws.{NodeLaid, laid-first, laid-same}
 use Rattle.tables.specs.LaidLaws.NodeLaid.{no-list, a-list}
 use Rattle.tables.specs.DepsLaws.{node-along, along-same, next-inside}
 use Rattle.paper.specs.Adding.{Change}
-use Rattle.judge.specs.Judge.{depCount}
+use Rattle.judge.specs.Judge.{depsGiven}
 use Rattle.judge.specs.JudgeLaws.{Accepted}
 use Rattle.graph.specs.Place.{nextsFrom, firstEdge, unheaded, withNode, depsOf, stored}
 use Rattle.graph.specs.PlaceLaws.{Fits, fits, nexts-long, nexts-more, nexts-last, unheaded-long, unheaded-other, unheaded-at, deps-long, new-targets, new-targets-low}
@@ -91,27 +91,27 @@ module _ (t : Tables) (x : Change) (v : Valid t) (a : Accepted t x) where
   -- counts
   pub new-changes : changes (stored t x) ≡ suc (changes t)
   new-changes =
-      getD-set-other (set (t .counts) 0 (changes t + 1)) 1 0 (edges t + depCount x) 0 (λ q. omega arith)
+      getD-set-other (set (t .counts) 0 (changes t + 1)) 1 0 (edges t + depsGiven x) 0 (λ q. omega arith)
       ∙ getD-set-same (t .counts) 0 (changes t + 1) 0 (let c = fit .counts-three in omega arith)
       ∙ add-one (changes t)
 
-  pub new-edges : edges (stored t x) ≡ edges t + depCount x
-  new-edges = getD-set-same (set (t .counts) 0 (changes t + 1)) 1 (edges t + depCount x) 0 (simp length-set (let c = fit .counts-three in omega arith))
+  pub new-edges : edges (stored t x) ≡ edges t + depsGiven x
+  new-edges = getD-set-same (set (t .counts) 0 (changes t + 1)) 1 (edges t + depsGiven x) 0 (simp length-set (let c = fit .counts-three in omega arith))
 
   pub new-actors : actors (stored t x) ≡ actors t
   new-actors =
-      getD-set-other (set (t .counts) 0 (changes t + 1)) 1 2 (edges t + depCount x) 0 (λ q. omega arith)
+      getD-set-other (set (t .counts) 0 (changes t + 1)) 1 2 (edges t + depsGiven x) 0 (λ q. omega arith)
       ∙ getD-set-other (t .counts) 0 2 (changes t + 1) 0 (λ q. omega arith)
 
   -- lengths
   hash-room : 32 * changes t + length (x .hash) ≤ length (t .hashes)
   hash-room = let h = a .hash-long in let f = fit .hash-fits in omega arith
 
-  deps-enough : depCount x ≤ length (depsOf t x)
+  deps-enough : depsGiven x ≤ length (depsOf t x)
   deps-enough = let z = deps-long t x a fit in omega arith
 
-  nexts-enough : depCount x ≤ length (nextsFrom (depCount x) (edges t))
-  nexts-enough = let z = nexts-long (depCount x) (edges t) in omega arith
+  nexts-enough : depsGiven x ≤ length (nextsFrom (depsGiven x) (edges t))
+  nexts-enough = let z = nexts-long (depsGiven x) (edges t) in omega arith
 
   zeros-enough : actorRoom t ≤ length {A = ℕ} (replicate (actorRoom t) 0)
   zeros-enough = let z = length-replicate {A = ℕ} (actorRoom t) 0 in omega arith
@@ -124,14 +124,14 @@ module _ (t : Tables) (x : Change) (v : Valid t) (a : Accepted t x) where
 
   nodes-long : length (stored t x .nodes) ≡ length (t .nodes)
   nodes-long =
-      with-long (unheaded (depsOf t x) (t .nodes)) (changes t) (x .actor) (x .seq) (x .max-op) (x .ops) (firstEdge (depCount x) (edges t)) flags-room
+      with-long (unheaded (depsOf t x) (t .nodes)) (changes t) (x .actor) (x .seq) (x .max-op) (x .ops) (firstEdge (depsGiven x) (edges t)) flags-room
       ∙ unheaded-long (depsOf t x) (t .nodes)
 
   pub targets-long : length (stored t x .targets) ≡ length (t .targets)
-  targets-long = paste-long (t .targets) (edges t) (depsOf t x) (depCount x) (fit .targets-fit) deps-enough
+  targets-long = paste-long (t .targets) (edges t) (depsOf t x) (depsGiven x) (fit .targets-fit) deps-enough
 
   nexts-same-long : length (stored t x .nexts) ≡ length (t .nexts)
-  nexts-same-long = paste-long (t .nexts) (edges t) (nextsFrom (depCount x) (edges t)) (depCount x) (fit .nexts-fit) nexts-enough
+  nexts-same-long = paste-long (t .nexts) (edges t) (nextsFrom (depsGiven x) (edges t)) (depsGiven x) (fit .nexts-fit) nexts-enough
 
   clocks-long : length (stored t x .clocks) ≡ length (t .clocks)
   clocks-long = paste-long (t .clocks) (changes t * actorRoom t) (replicate (actorRoom t) 0) (actorRoom t) (fit .row-fits) zeros-enough
@@ -173,67 +173,67 @@ module _ (t : Tables) (x : Change) (v : Valid t) (a : Accepted t x) where
   -- records
   pub old-number : (k : ℕ) → k < changes t → (j : ℕ) → j < 5 → getD (stored t x .nodes) (6 * k + j) 0 ≡ getD (t .nodes) (6 * k + j) 0
   old-number k l j h =
-      with-low (unheaded (depsOf t x) (t .nodes)) (changes t) (x .actor) (x .seq) (x .max-op) (x .ops) (firstEdge (depCount x) (edges t)) flags-room (6 * k + j) (omega arith)
+      with-low (unheaded (depsOf t x) (t .nodes)) (changes t) (x .actor) (x .seq) (x .max-op) (x .ops) (firstEdge (depsGiven x) (edges t)) flags-room (6 * k + j) (omega arith)
       ∙ unheaded-other (depsOf t x) (t .nodes) (6 * k + j) (λ i q. omega arith)
 
   pub old-actor : (k : ℕ) → k < changes t → actorAt (stored t x .nodes) k ≡ actorAt (t .nodes) k
   old-actor k l =
-      with-low (unheaded (depsOf t x) (t .nodes)) (changes t) (x .actor) (x .seq) (x .max-op) (x .ops) (firstEdge (depCount x) (edges t)) flags-room (6 * k) (omega arith)
+      with-low (unheaded (depsOf t x) (t .nodes)) (changes t) (x .actor) (x .seq) (x .max-op) (x .ops) (firstEdge (depsGiven x) (edges t)) flags-room (6 * k) (omega arith)
       ∙ unheaded-other (depsOf t x) (t .nodes) (6 * k) (λ i q. omega arith)
 
   pub old-head : (k : ℕ) → k < changes t → headAt (stored t x .nodes) k ≡ cond (mem k (depsOf t x)) 0 (headAt (t .nodes) k)
   old-head k l =
-      with-low (unheaded (depsOf t x) (t .nodes)) (changes t) (x .actor) (x .seq) (x .max-op) (x .ops) (firstEdge (depCount x) (edges t)) flags-room (6 * k + 5) (omega arith)
+      with-low (unheaded (depsOf t x) (t .nodes)) (changes t) (x .actor) (x .seq) (x .max-op) (x .ops) (firstEdge (depsGiven x) (edges t)) flags-room (6 * k + 5) (omega arith)
       ∙ unheaded-at (depsOf t x) (t .nodes) k (let f = fit .node-fits in omega arith)
 
   pub new-actor : actorAt (stored t x .nodes) (changes t) ≡ x .actor
-  new-actor = with-actor (unheaded (depsOf t x) (t .nodes)) (changes t) (x .actor) (x .seq) (x .max-op) (x .ops) (firstEdge (depCount x) (edges t)) flags-room
+  new-actor = with-actor (unheaded (depsOf t x) (t .nodes)) (changes t) (x .actor) (x .seq) (x .max-op) (x .ops) (firstEdge (depsGiven x) (edges t)) flags-room
 
   pub new-seq : seqAt (stored t x .nodes) (changes t) ≡ x .seq
-  new-seq = with-seq (unheaded (depsOf t x) (t .nodes)) (changes t) (x .actor) (x .seq) (x .max-op) (x .ops) (firstEdge (depCount x) (edges t)) flags-room
+  new-seq = with-seq (unheaded (depsOf t x) (t .nodes)) (changes t) (x .actor) (x .seq) (x .max-op) (x .ops) (firstEdge (depsGiven x) (edges t)) flags-room
 
   pub new-max : maxOpAt (stored t x .nodes) (changes t) ≡ x .max-op
-  new-max = with-max (unheaded (depsOf t x) (t .nodes)) (changes t) (x .actor) (x .seq) (x .max-op) (x .ops) (firstEdge (depCount x) (edges t)) flags-room
+  new-max = with-max (unheaded (depsOf t x) (t .nodes)) (changes t) (x .actor) (x .seq) (x .max-op) (x .ops) (firstEdge (depsGiven x) (edges t)) flags-room
 
   pub new-ops : opsAt (stored t x .nodes) (changes t) ≡ x .ops
-  new-ops = with-ops (unheaded (depsOf t x) (t .nodes)) (changes t) (x .actor) (x .seq) (x .max-op) (x .ops) (firstEdge (depCount x) (edges t)) flags-room
+  new-ops = with-ops (unheaded (depsOf t x) (t .nodes)) (changes t) (x .actor) (x .seq) (x .max-op) (x .ops) (firstEdge (depsGiven x) (edges t)) flags-room
 
-  new-first : firstAt (stored t x .nodes) (changes t) ≡ firstEdge (depCount x) (edges t)
-  new-first = with-first (unheaded (depsOf t x) (t .nodes)) (changes t) (x .actor) (x .seq) (x .max-op) (x .ops) (firstEdge (depCount x) (edges t)) flags-room
+  new-first : firstAt (stored t x .nodes) (changes t) ≡ firstEdge (depsGiven x) (edges t)
+  new-first = with-first (unheaded (depsOf t x) (t .nodes)) (changes t) (x .actor) (x .seq) (x .max-op) (x .ops) (firstEdge (depsGiven x) (edges t)) flags-room
 
   pub new-head : headAt (stored t x .nodes) (changes t) ≡ 1
-  new-head = with-head (unheaded (depsOf t x) (t .nodes)) (changes t) (x .actor) (x .seq) (x .max-op) (x .ops) (firstEdge (depCount x) (edges t)) flags-room
+  new-head = with-head (unheaded (depsOf t x) (t .nodes)) (changes t) (x .actor) (x .seq) (x .max-op) (x .ops) (firstEdge (depsGiven x) (edges t)) flags-room
 
   -- edges
   old-target : (i : ℕ) → i < edges t → getD (stored t x .targets) i 0 ≡ getD (t .targets) i 0
-  old-target = paste-low (t .targets) (edges t) (depsOf t x) (depCount x) (fit .targets-fit) deps-enough
+  old-target = paste-low (t .targets) (edges t) (depsOf t x) (depsGiven x) (fit .targets-fit) deps-enough
 
   old-next : (i : ℕ) → i < edges t → getD (stored t x .nexts) i 0 ≡ getD (t .nexts) i 0
-  old-next = paste-low (t .nexts) (edges t) (nextsFrom (depCount x) (edges t)) (depCount x) (fit .nexts-fit) nexts-enough
+  old-next = paste-low (t .nexts) (edges t) (nextsFrom (depsGiven x) (edges t)) (depsGiven x) (fit .nexts-fit) nexts-enough
 
-  new-next : (j : ℕ) → j < depCount x → getD (stored t x .nexts) (edges t + j) 0 ≡ getD (nextsFrom (depCount x) (edges t)) j 0
-  new-next = paste-in (t .nexts) (edges t) (nextsFrom (depCount x) (edges t)) (depCount x) (fit .nexts-fit) nexts-enough
+  new-next : (j : ℕ) → j < depsGiven x → getD (stored t x .nexts) (edges t + j) 0 ≡ getD (nextsFrom (depsGiven x) (edges t)) j 0
+  new-next = paste-in (t .nexts) (edges t) (nextsFrom (depsGiven x) (edges t)) (depsGiven x) (fit .nexts-fit) nexts-enough
 
   -- the new node's list, from its edge j on
-  new-run : (left j : ℕ) → j + suc left ≡ depCount x → Run (stored t x .targets) (stored t x .nexts) (changes t) (edges t + j) (edges t + depCount x)
+  new-run : (left j : ℕ) → j + suc left ≡ depsGiven x → Run (stored t x .targets) (stored t x .nexts) (changes t) (edges t + j) (edges t + depsGiven x)
   new-run zero j e =
-      last {c = edges t + j} {d = edges t + depCount x} (new-targets-low t x a fit (edges t + j) (omega arith) (omega arith)) (new-next j (omega arith) ∙ nexts-last (depCount x) (edges t) j (omega arith)) (omega arith)
+      last {c = edges t + j} {d = edges t + depsGiven x} (new-targets-low t x a fit (edges t + j) (omega arith) (omega arith)) (new-next j (omega arith) ∙ nexts-last (depsGiven x) (edges t) j (omega arith)) (omega arith)
   new-run (suc left) j e =
       let s : edges t + (j + 1) ≡ edges t + j + 1 = omega arith in
-      more {c = edges t + j} (new-targets-low t x a fit (edges t + j) (omega arith) (omega arith)) (new-next j (omega arith) ∙ nexts-more (depCount x) (edges t) j (omega arith))
-      (subst (λ (c : ℕ). Run (stored t x .targets) (stored t x .nexts) (changes t) c (edges t + depCount x)) s (new-run left (j + 1) (omega arith)))
+      more {c = edges t + j} (new-targets-low t x a fit (edges t + j) (omega arith) (omega arith)) (new-next j (omega arith) ∙ nexts-more (depsGiven x) (edges t) j (omega arith))
+      (subst (λ (c : ℕ). Run (stored t x .targets) (stored t x .nexts) (changes t) c (edges t + depsGiven x)) s (new-run left (j + 1) (omega arith)))
 
-  new-list : NodeLaid (stored t x .nodes) (stored t x .targets) (stored t x .nexts) (changes t) (edges t) (edges t + depCount x)
+  new-list : NodeLaid (stored t x .nodes) (stored t x .targets) (stored t x .nexts) (changes t) (edges t) (edges t + depsGiven x)
   new-list =
-      by-bool (eqb (depCount x) 0)
-      (λ z. let e = eqb-true (depCount x) 0 z in no-list (new-first ∙ ap (λ (b : Bool). cond b 0 (edges t + 1)) z) (omega arith))
+      by-bool (eqb (depsGiven x) 0)
+      (λ z. let e = eqb-true (depsGiven x) 0 z in no-list (new-first ∙ ap (λ (b : Bool). cond b 0 (edges t + 1)) z) (omega arith))
       (λ z.
-      let e = eqb-false (depCount x) 0 z in
-      let p : 0 < depCount x = pos (depCount x) e in
+      let e = eqb-false (depsGiven x) 0 z in
+      let p : 0 < depsGiven x = pos (depsGiven x) e in
       let s : edges t + 0 ≡ edges t = omega arith in
       let w = a .few in
       a-list (new-first ∙ ap (λ (b : Bool). cond b 0 (edges t + 1)) z)
-      (subst (λ (c : ℕ). Run (stored t x .targets) (stored t x .nexts) (changes t) c (edges t + depCount x)) s (new-run (depCount x - 1) 0 (omega arith)))
+      (subst (λ (c : ℕ). Run (stored t x .targets) (stored t x .nexts) (changes t) c (edges t + depsGiven x)) s (new-run (depsGiven x - 1) 0 (omega arith)))
       (omega arith))
     where
       pos : (d : ℕ) → (d ≡ 0 → ⊥) → 0 < d

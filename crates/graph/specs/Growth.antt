@@ -9,7 +9,7 @@ use native.Mathlib.Omega.{arith}
 use lib.Dec.{eqb}
 use lib.ListN.{length, getD}
 use Rattle.paper.specs.Lists.{mem, tally}
-use Rattle.paper.specs.Graph.{Graph, clock, wanted, Valid as ValidGraph}
+use Rattle.paper.specs.Graph.{Graph, clock, wanted, ValidGraph as ValidGraph}
 use Rattle.paper.specs.ProofWords.{Extends}
 use Rattle.paper.proofs.Bools.{by-bool, below-suc, mem-single, mem-place}
 use Rattle.paper.proofs.Extend.{valid-add, wanted-add, new-unwanted, clock-extend}
@@ -18,11 +18,11 @@ use Rattle.hash.specs.Hash.{findHash}
 use Rattle.hash.specs.HashLaws.{FoundIs, find-is}
 use Rattle.hash.specs.declared.Found.the-variants.{Unknown as Nowhere}
 use Rattle.tables.specs.Tables.{Tables, changes, edges, actors, changeRoom, actorRoom, actorAt, seqAt, maxOpAt, opsAt, headAt, entryAt, graph}
-use Rattle.tables.specs.Valid.{Counts, Distinct, NumbersAt, Numbers, Running, Heads, Rows, Sound, Valid, countOf}
+use Rattle.tables.specs.Valid.{Counts, HashesDistinct, NumbersAt, Numbers, Running, Heads, Rows, Sound, Valid, countOf}
 use Rattle.tables.specs.DepsLaws.{valid-graph}
 use Rattle.judge.specs.declared.Judged.the-variants.{Done}
 use Rattle.paper.specs.Adding.{Change}
-use Rattle.judge.specs.Judge.{depCount, judged}
+use Rattle.judge.specs.Judge.{depsGiven, tablesJudged}
 use Rattle.judge.specs.JudgeLaws.{Accepted, accepted}
 use Rattle.graph.specs.Place.{depsOf, stored}
 use Rattle.graph.specs.PlaceLaws.{Fits, fits, deps-long, nodes-low}
@@ -72,7 +72,7 @@ module _ (t : Tables) (x : Change) (v : Valid t) (a : Accepted t x) where
   low j m =
       let p = mem-place j (depsOf t x) (rw (new-deps t x v a) at m) in
       let l = deps-long t x a (fits t x v a) in
-      let b : p .0 < depCount x = (let q = p .1 in omega arith) in
+      let b : p .0 < depsGiven x = (let q = p .1 in omega arith) in
       let r = nodes-low (t .hashes) (changes t) (x .deps) (a .all-known) (p .0) b in
       let e : getD (depsOf t x) (p .0) 0 ≡ j = p .2 in
       omega arith
@@ -100,8 +100,8 @@ module _ (t : Tables) (x : Change) (v : Valid t) (a : Accepted t x) where
         actors-fit = let b = v .sound .counts .actors-fit in omega arith;
       }
 
-  distinct : Distinct (stored t x .hashes) (changes (stored t x))
-  unfolding Distinct FoundIs
+  distinct : HashesDistinct (stored t x .hashes) (changes (stored t x))
+  unfolding HashesDistinct FoundIs
   distinct =
       each (λ (j : ℕ). (i : ℕ) → i < j → hashAt (stored t x .hashes) i ≡ hashAt (stored t x .hashes) j → ⊥)
       (λ j l i h q. v .sound .distinct j l i h (sym (old-hash t x v a i (omega arith)) ∙ q ∙ old-hash t x v a j l))
@@ -176,8 +176,8 @@ module _ (t : Tables) (x : Change) (v : Valid t) (a : Accepted t x) where
 
 -- ---- the promise of `place`, in the paper's words
 
-pub stored-valid : (t : Tables) (x : Change) → Valid t → judged t x ≡ Done → Valid (stored t x)
+pub stored-valid : (t : Tables) (x : Change) → Valid t → tablesJudged t x ≡ Done → Valid (stored t x)
 stored-valid t x v d = stays-valid t x v (accepted t x d)
 
-pub stored-grows : (t : Tables) (x : Change) → Valid t → judged t x ≡ Done → Grows (graph t) x (depsOf t x) (graph (stored t x))
+pub stored-grows : (t : Tables) (x : Change) → Valid t → tablesJudged t x ≡ Done → Grows (graph t) x (depsOf t x) (graph (stored t x))
 stored-grows t x v d = grows t x v (accepted t x d)

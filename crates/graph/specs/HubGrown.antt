@@ -23,11 +23,11 @@ use Rattle.tables.specs.Valid.{Valid}
 use Rattle.tables.specs.NodeLaws.{node-at}
 use Rattle.judge.specs.declared.Judged.{Judged}
 use Rattle.judge.specs.declared.Judged.the-variants.{Done}
-use Rattle.judge.specs.Judge.{depCount, judged, verdict, numberOf}
+use Rattle.judge.specs.Judge.{depsGiven, tablesJudged, verdict, judgedNumber}
 use Rattle.judge.specs.JudgeLaws.{Accepted, accepted, is-done}
 use Rattle.judge.specs.Hub.{hub}
 use Rattle.judge.specs.HubLaws.{judged-agrees}
-use Rattle.graph.specs.Place.{nodeOf, nodesFrom, depsOf, placed, added}
+use Rattle.graph.specs.Place.{nodeOf, nodesFrom, depsOf, placed, addedTables}
 use Rattle.graph.specs.PlaceLaws.{none-missing, added-done, added-refused}
 use Rattle.graph.specs.Grown.{hashes-long, targets-long, new-actors}
 use Rattle.graph.specs.Growth.{Grows, stored-grows}
@@ -47,7 +47,7 @@ nodes-from t ds (suc left) i h =
 
 deps-nodes : (t : Tables) (x : Change) → Accepted t x → depsOf t x ≡ nodes (graph t) (hashes-of (x .deps))
 unfolding nodes hashes-of
-deps-nodes t x a = nodes-from t (x .deps) (depCount x) 0 (λ j l e. none-missing (t .hashes) (changes t) (x .deps) (a .all-known) j (omega arith) e)
+deps-nodes t x a = nodes-from t (x .deps) (depsGiven x) 0 (λ j l e. none-missing (t .hashes) (changes t) (x .deps) (a .all-known) j (omega arith) e)
 
 -- ---- a graph that grew by a change is the paper's grown graph
 
@@ -76,21 +76,21 @@ module _ (g g′ : Graph) (x : Change) (w : Grows g x (nodes g (hashes-of (x .de
 
 module _ (t : Tables) (x : Change) (v : Valid t) where
   -- the graph after placing
-  pub placed-grown : judged t x ≡ Done → SameGraph (grown (graph t) x) (graph (placed t x))
+  pub placed-grown : tablesJudged t x ≡ Done → SameGraph (grown (graph t) x) (graph (placed t x))
   placed-grown d =
       grows-grown (graph t) (graph (placed t x)) x
       (subst (λ (ds : List ℕ). Grows (graph t) x ds (graph (placed t x))) (deps-nodes t x (accepted t x d)) (stored-grows t x v d))
 
   -- the graph and its room after adding, whatever the answer is
-  pub added-hub : SameHub (paper-added (hub t) x) (hub (added t x))
+  pub added-hub : SameHub (paper-added (hub t) x) (hub (addedTables t x))
   unfolding paper-added accepts
-  added-hub = elim (ℕ-discrete (numberOf (judged t x)) 0) [
+  added-hub = elim (ℕ-discrete (judgedNumber (tablesJudged t x)) 0) [
     | yes e ↦ (
-        let d = is-done (judged t x) e in
+        let d = is-done (tablesJudged t x) e in
         let a = accepted t x d in
         let h = hashes-long t x v a in
         rw (added-done t x d, ← judged-agrees t x (v .sound), d)
         (record { graphs = placed-grown d; actors = new-actors t x v a; change-rooms = ap (λ (n : ℕ). n / 32) h; edge-rooms = targets-long t x v a })
         )
-    | no n ↦ rw (added-refused t x n, ← judged-agrees t x (v .sound), ne-eqb (numberOf (judged t x)) 0 n) (same-hub (hub t))
+    | no n ↦ rw (added-refused t x n, ← judged-agrees t x (v .sound), ne-eqb (judgedNumber (tablesJudged t x)) 0 n) (same-hub (hub t))
   ]

@@ -15,16 +15,16 @@ use Rattle.paper.proofs.Same.{SameHub, hub-trans, added-same}
 use Rattle.tables.specs.Tables.{Tables, changes, graph}
 use Rattle.tables.specs.Valid.{Valid}
 use Rattle.judge.specs.declared.Judged.the-variants.{Done}
-use Rattle.judge.specs.Judge.{judged}
+use Rattle.judge.specs.Judge.{tablesJudged}
 use Rattle.judge.specs.JudgeLaws.{Accepted, accepted}
 use Rattle.judge.specs.Hub.{hub}
-use Rattle.graph.specs.Place.{depsOf, placed, added}
+use Rattle.graph.specs.Place.{depsOf, placed, addedTables}
 use Rattle.graph.specs.Grown.{new-changes, new-deps}
 use Rattle.graph.specs.Growth.{extended, low, next, old-valid, new-valid}
 use Rattle.graph.specs.HubGrown.{added-hub}
 use Rattle.graph.specs.Life.{added-valid, adds}
 
-module _ (t : Tables) (x : Change) (v : Valid t) (d : judged t x ≡ Done) where
+module _ (t : Tables) (x : Change) (v : Valid t) (d : tablesJudged t x ≡ Done) where
   a : Accepted t x
   a = accepted t x d
 
@@ -60,4 +60,4 @@ module _ (t : Tables) (x : Change) (v : Valid t) (d : judged t x ≡ Done) where
 pub adds-hub : (t : Tables) (u : Hub) (xs : List Change) → Valid t → SameHub u (hub t) → SameHub (all-added u xs) (hub (adds t xs))
 unfolding adds all-added
 adds-hub t u [] v e = e
-adds-hub t u (x ∷ xs) v e = adds-hub (added t x) (paper-added u x) xs (added-valid t x v) (hub-trans (added-same u (hub t) x e) (added-hub t x v))
+adds-hub t u (x ∷ xs) v e = adds-hub (addedTables t x) (paper-added u x) xs (added-valid t x v) (hub-trans (added-same u (hub t) x e) (added-hub t x v))

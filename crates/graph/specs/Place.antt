@@ -17,7 +17,7 @@ use Rattle.cache.specs.RowLaws.{with-clocks}
 use Rattle.judge.specs.declared.Judged.{Judged}
 use Rattle.judge.specs.declared.Judged.the-variants.{Done, Malformed, Known, Unknown, NoActor, WrongSequence, BadOps, TooManyDeps, NoNodeRoom, NoEdgeRoom}
 use Rattle.paper.specs.Adding.{Change}
-use Rattle.judge.specs.Judge.{depCount, judged}
+use Rattle.judge.specs.Judge.{depsGiven, tablesJudged}
 
 -- the node that was found
 abbrev pub nodeOf : Found → ℕ
@@ -60,11 +60,11 @@ abbrev pub stored : Tables → Change → Tables
 stored t x =
     record {
       hashes = paste (t .hashes) (32 * changes t) (x .hash) (length (x .hash));
-      nodes = withNode (unheaded (depsOf t x) (t .nodes)) (changes t) (x .actor) (x .seq) (x .max-op) (x .ops) (firstEdge (depCount x) (edges t));
-      targets = paste (t .targets) (edges t) (depsOf t x) (depCount x);
-      nexts = paste (t .nexts) (edges t) (nextsFrom (depCount x) (edges t)) (depCount x);
+      nodes = withNode (unheaded (depsOf t x) (t .nodes)) (changes t) (x .actor) (x .seq) (x .max-op) (x .ops) (firstEdge (depsGiven x) (edges t));
+      targets = paste (t .targets) (edges t) (depsOf t x) (depsGiven x);
+      nexts = paste (t .nexts) (edges t) (nextsFrom (depsGiven x) (edges t)) (depsGiven x);
       clocks = paste (t .clocks) (changes t * actorRoom t) (replicate (actorRoom t) 0) (actorRoom t);
-      counts = set (set (t .counts) 0 (changes t + 1)) 1 (edges t + depCount x);
+      counts = set (set (t .counts) 0 (changes t + 1)) 1 (edges t + depsGiven x);
     }
 
 -- the clock table after node k was added: its clock is cached where it is due
@@ -76,18 +76,18 @@ abbrev pub placed : Tables → Change → Tables
 placed t x = with-clocks (stored t x) (dueClocks (stored t x) (changes t))
 
 -- the new tables where the answer is Done, and else the old ones
-abbrev pub ifDone : Judged → Tables → Tables → Tables
-ifDone Done new old = new
-ifDone Malformed new old = old
-ifDone Known new old = old
-ifDone (Unknown i) new old = old
-ifDone NoActor new old = old
-ifDone WrongSequence new old = old
-ifDone BadOps new old = old
-ifDone TooManyDeps new old = old
-ifDone NoNodeRoom new old = old
-ifDone NoEdgeRoom new old = old
+abbrev pub ifAdded : Judged → Tables → Tables → Tables
+ifAdded Done new old = new
+ifAdded Malformed new old = old
+ifAdded Known new old = old
+ifAdded (Unknown i) new old = old
+ifAdded NoActor new old = old
+ifAdded WrongSequence new old = old
+ifAdded BadOps new old = old
+ifAdded TooManyDeps new old = old
+ifAdded NoNodeRoom new old = old
+ifAdded NoEdgeRoom new old = old
 
 -- the tables after the change was judged and, if accepted, placed
-abbrev pub added : Tables → Change → Tables
-added t x = ifDone (judged t x) (placed t x) t
+abbrev pub addedTables : Tables → Change → Tables
+addedTables t x = ifAdded (tablesJudged t x) (placed t x) t

@@ -26,11 +26,11 @@ use Rattle.tables.specs.Tables.{Tables, tables, changes, edges, actors, changeR
 use Rattle.tables.specs.Valid.{Valid}
 use Rattle.tables.specs.CheckLaws.{tally-bound}
 use Rattle.paper.specs.Adding.{Change}
-use Rattle.judge.specs.Judge.{depCount, judged, numberOf}
+use Rattle.judge.specs.Judge.{depsGiven, tablesJudged, judgedNumber}
 use Rattle.judge.specs.JudgeLaws.{Accepted}
 use Rattle.paper.specs.Caching.{cache-due}
 use Rattle.cache.specs.Cache.{afterCaching}
-use Rattle.graph.specs.Place.{nodeOf, nodesFrom, nextsFrom, unheaded, depsOf, stored, dueClocks, placed, ifDone, added}
+use Rattle.graph.specs.Place.{nodeOf, nodesFrom, nextsFrom, unheaded, depsOf, stored, dueClocks, placed, ifAdded, addedTables}
 use Rattle.judge.specs.declared.Judged.{Judged}
 use Rattle.judge.specs.declared.Judged.the-variants.{Done, Malformed, Known as AlreadyKnown, Unknown, NoActor, WrongSequence, BadOps, TooManyDeps, NoNodeRoom, NoEdgeRoom}
 
@@ -135,8 +135,8 @@ pub record Fits (t : Tables) (x : Change) : Type 0 where
   pub hash-fits : 32 * changes t + 32 ≤ length (t .hashes)
   pub node-fits : 6 * changes t + 6 ≤ length (t .nodes)
   pub changes-low : changes t < 4096
-  pub targets-fit : edges t + depCount x ≤ length (t .targets)
-  pub nexts-fit : edges t + depCount x ≤ length (t .nexts)
+  pub targets-fit : edges t + depsGiven x ≤ length (t .targets)
+  pub nexts-fit : edges t + depsGiven x ≤ length (t .nexts)
   pub nexts-short : length (t .nexts) ≤ 16384
   pub counts-three : length (t .counts) ≡ 3
   pub row-fits : changes t * actorRoom t + actorRoom t ≤ length (t .clocks)
@@ -167,27 +167,27 @@ fits t x v a =
     }
 
 module _ (t : Tables) (x : Change) (a : Accepted t x) (f : Fits t x) where
-  pub deps-long : length (depsOf t x) ≡ depCount x
-  deps-long = nodes-long (t .hashes) (changes t) (x .deps) (depCount x) 0
+  pub deps-long : length (depsOf t x) ≡ depsGiven x
+  deps-long = nodes-long (t .hashes) (changes t) (x .deps) (depsGiven x) 0
 
   -- the new edges' targets are nodes in use
-  pub new-targets-low : (i : ℕ) → edges t ≤ i → i < edges t + depCount x → getD (stored t x .targets) i 0 < changes t
+  pub new-targets-low : (i : ℕ) → edges t ≤ i → i < edges t + depsGiven x → getD (stored t x .targets) i 0 < changes t
   new-targets-low i l h =
       let e : edges t + (i - edges t) ≡ i = omega arith in
       let b = nodes-low (t .hashes) (changes t) (x .deps) (a .all-known) (i - edges t) (omega arith) in
-      let q = paste-in (t .targets) (edges t) (depsOf t x) (depCount x) (f .targets-fit) (let z = deps-long in omega arith) (i - edges t) (omega arith) in
+      let q = paste-in (t .targets) (edges t) (depsOf t x) (depsGiven x) (f .targets-fit) (let z = deps-long in omega arith) (i - edges t) (omega arith) in
       subst (λ (k : ℕ). getD (stored t x .targets) k 0 < changes t) e (rw q b)
 
   -- they are the change's dependencies
-  pub new-targets : slice (edges t) (edges t + depCount x) (stored t x .targets) ≡ depsOf t x
-  new-targets = paste-part (t .targets) (edges t) (depsOf t x) (depCount x) (f .targets-fit) (let z = deps-long in omega arith) deps-long
+  pub new-targets : slice (edges t) (edges t + depsGiven x) (stored t x .targets) ≡ depsOf t x
+  new-targets = paste-part (t .targets) (edges t) (depsOf t x) (depsGiven x) (f .targets-fit) (let z = deps-long in omega arith) deps-long
 
   pub stored-targets-long : length (stored t x .targets) ≡ length (t .targets)
-  stored-targets-long = paste-long (t .targets) (edges t) (depsOf t x) (depCount x) (f .targets-fit) (let z = deps-long in omega arith)
+  stored-targets-long = paste-long (t .targets) (edges t) (depsOf t x) (depsGiven x) (f .targets-fit) (let z = deps-long in omega arith)
 
 -- ---- refused, and accepted
 
-pub refused : (j : Judged) (new old : Tables) → (numberOf j ≡ 0 → ⊥) → ifDone j new old ≡ old
+pub refused : (j : Judged) (new old : Tables) → (judgedNumber j ≡ 0 → ⊥) → ifAdded j new old ≡ old
 refused Done new old n = absurd (n refl)
 refused Malformed new old n = refl
 refused AlreadyKnown new old n = refl
@@ -201,12 +201,12 @@ refused NoEdgeRoom new old n = refl
 
 module _ (t : Tables) (x : Change) where
   -- accepted: the placed tables
-  pub added-done : judged t x ≡ Done → added t x ≡ placed t x
-  added-done d = ap (λ (j : Judged). ifDone j (placed t x) t) d
+  pub added-done : tablesJudged t x ≡ Done → addedTables t x ≡ placed t x
+  added-done d = ap (λ (j : Judged). ifAdded j (placed t x) t) d
 
   -- refused: nothing is changed
-  pub added-refused : (numberOf (judged t x) ≡ 0 → ⊥) → added t x ≡ t
-  added-refused n = refused (judged t x) (placed t x) t n
+  pub added-refused : (judgedNumber (tablesJudged t x) ≡ 0 → ⊥) → addedTables t x ≡ t
+  added-refused n = refused (tablesJudged t x) (placed t x) t n
 
 -- tables that agree in each list are the same
 pub same-tables : {hs hs′ ns ns′ ts ts′ xs xs′ cs cs′ us us′ : List ℕ} → hs ≡ hs′ → ns ≡ ns′ → ts ≡ ts′ → xs ≡ xs′ → cs ≡ cs′ → us ≡ us′ → tables hs ns ts xs cs us ≡ tables hs′ ns′ ts′ xs′ cs′ us′

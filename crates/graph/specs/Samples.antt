@@ -11,7 +11,7 @@ use Rattle.paper.specs.Graph.{wanted, head-nodes}
 use Rattle.tables.specs.Tables.{Tables, tables, widthOf, links, graph}
 use Rattle.judge.specs.declared.Judged.the-variants.{Done, Known, Unknown, WrongSequence, BadOps, NoNodeRoom}
 use Rattle.paper.specs.Adding.{Change}
-use Rattle.judge.specs.Judge.{change, judged}
+use Rattle.judge.specs.Judge.{change, tablesJudged}
 use Rattle.graph.specs.Place.{nodesFrom, nextsFrom, unheaded, stored}
 
 -- Hn: the digit n 64 times
@@ -40,39 +40,39 @@ two = stored one h2
 abbrev three : Tables
 three = stored two h3
 
-first-added : judged empty h1 ≡ Done
-unfolding hashAt sameList sameHash findFrom findHash unknownFrom firstUnknown tally judged
+first-added : tablesJudged empty h1 ≡ Done
+unfolding hashAt sameList sameHash findFrom findHash unknownFrom firstUnknown tally tablesJudged
 first-added = refl
 
-second-added : judged one h2 ≡ Done
-unfolding hashAt sameList sameHash findFrom findHash unknownFrom firstUnknown tally judged nodesFrom nextsFrom unheaded widthOf
+second-added : tablesJudged one h2 ≡ Done
+unfolding hashAt sameList sameHash findFrom findHash unknownFrom firstUnknown tally tablesJudged nodesFrom nextsFrom unheaded widthOf
 second-added = refl
 
-third-added : judged two h3 ≡ Done
-unfolding hashAt sameList sameHash findFrom findHash unknownFrom firstUnknown tally judged nodesFrom nextsFrom unheaded widthOf
+third-added : tablesJudged two h3 ≡ Done
+unfolding hashAt sameList sameHash findFrom findHash unknownFrom firstUnknown tally tablesJudged nodesFrom nextsFrom unheaded widthOf
 third-added = refl
 
 -- a known hash, with everything else wrong
-known-again : judged three (change (H 2) 1 9 9 9 (H 4)) ≡ Known
-unfolding hashAt sameList sameHash findFrom findHash unknownFrom firstUnknown tally judged nodesFrom nextsFrom unheaded widthOf
+known-again : tablesJudged three (change (H 2) 1 9 9 9 (H 4)) ≡ Known
+unfolding hashAt sameList sameHash findFrom findHash unknownFrom firstUnknown tally tablesJudged nodesFrom nextsFrom unheaded widthOf
 known-again = refl
 
 -- the first unknown dependency is named by its position
-unknown-named : judged three (change (H 5) 0 3 6 1 (H 1 ++ (H 4 ++ H 6))) ≡ Unknown 1
-unfolding hashAt sameList sameHash findFrom findHash unknownFrom firstUnknown tally judged nodesFrom nextsFrom unheaded widthOf
+unknown-named : tablesJudged three (change (H 5) 0 3 6 1 (H 1 ++ (H 4 ++ H 6))) ≡ Unknown 1
+unfolding hashAt sameList sameHash findFrom findHash unknownFrom firstUnknown tally tablesJudged nodesFrom nextsFrom unheaded widthOf
 unknown-named = refl
 
 -- a change that names itself
-itself : judged three (change (H 5) 0 3 6 1 (H 5)) ≡ Unknown 0
-unfolding hashAt sameList sameHash findFrom findHash unknownFrom firstUnknown tally judged nodesFrom nextsFrom unheaded widthOf
+itself : tablesJudged three (change (H 5) 0 3 6 1 (H 5)) ≡ Unknown 0
+unfolding hashAt sameList sameHash findFrom findHash unknownFrom firstUnknown tally tablesJudged nodesFrom nextsFrom unheaded widthOf
 itself = refl
 
 -- no room for a fourth
-full : judged three (change (H 5) 0 3 6 1 []) ≡ NoNodeRoom
-unfolding hashAt sameList sameHash findFrom findHash unknownFrom firstUnknown tally judged nodesFrom nextsFrom unheaded widthOf
+full : tablesJudged three (change (H 5) 0 3 6 1 []) ≡ NoNodeRoom
+unfolding hashAt sameList sameHash findFrom findHash unknownFrom firstUnknown tally tablesJudged nodesFrom nextsFrom unheaded widthOf
 full = refl
 
 -- H2 and H3 are the heads
 two-heads : head-nodes (graph three) ≡ 1 ∷ 2 ∷ []
-unfolding hashAt sameList sameHash findFrom findHash unknownFrom firstUnknown tally judged nodesFrom nextsFrom unheaded widthOf links mem pick some-below wanted head-nodes
+unfolding hashAt sameList sameHash findFrom findHash unknownFrom firstUnknown tally tablesJudged nodesFrom nextsFrom unheaded widthOf links mem pick some-below wanted head-nodes
 two-heads = refl

@@ -23,14 +23,14 @@ use Rattle.hash.specs.HashLaws.{hash-length}
 use Rattle.hash.specs.declared.Found.the-variants.{At, Unknown}
 use Rattle.tables.specs.Tables.{Tables, tables, changes, headAt, graph}
 use Rattle.tables.specs.NodeLaws.{node-at, node-low, node-none}
-use Rattle.tables.specs.Valid.{Valid, Heads, Distinct}
+use Rattle.tables.specs.Valid.{Valid, Heads, HashesDistinct}
 use Rattle.answer_buffer.specs.Room.{room}
 use Rattle.answer_buffer.specs.Picking.{rest-of, rest-all, rest-hit, rest-miss}
 use Rattle.answer_buffer.specs.Entering.{Wide, wide-cons, wide-ascending, flat-long, Entering, entering-start, entering-room, entering-next, entering-told, entering-whole, entered-list}
 use Rattle.answer_buffer.specs.SlotLaws.{hashes-split}
 use Rattle.answer_buffer.specs.AnswerLaws.{Holds, holds-next, holds-as, filled-done}
 use Rattle.list_laws.specs.Over.{over-one}
-use Rattle.answer_buffer.specs.Answers.{listed, filled}
+use Rattle.answer_buffer.specs.Answers.{listAnswer, filled}
 use Rattle.answer_buffer.specs.declared.Listed.the-variants.{Done}
 use Rattle.heads.specs.Heads.{head-hashes, head-places, node-in}
 
@@ -104,7 +104,7 @@ module _ (t : Tables) (v : Valid t) where
 
   -- distinct hashes: none stands twice
   once-rest : (left k : ℕ) → k + left ≤ changes t → Once (map (graph t .hash) (rest-of (is-head t) left k))
-  unfolding rest-of Once Distinct
+  unfolding rest-of Once HashesDistinct
   once-rest zero k l = tt
   once-rest (suc left) k l =
       let r = once-rest left (suc k) (omega arith) in
@@ -166,9 +166,9 @@ module _ (t : Tables) (v : Valid t) where
     all-fit : 32 * length (ascending (from-node t 0)) ≤ length out₀
     all-fit = let q = ap length from-all in omega arith
 
-    pub heads-told : Done (32 * c) ≡ listed (head-hashes (graph t)) (length out₀)
+    pub heads-told : Done (32 * c) ≡ listAnswer (head-hashes (graph t)) (length out₀)
     unfolding head-hashes
-    heads-told = entering-told last (from-wide 0 (omega arith)) all-fit ∙ ap (λ (x : List (List ℕ)). listed (flat x) (length out₀)) from-all
+    heads-told = entering-told last (from-wide 0 (omega arith)) all-fit ∙ ap (λ (x : List (List ℕ)). listAnswer (flat x) (length out₀)) from-all
 
     pub heads-whole : out ≡ filled (head-hashes (graph t)) out₀
     unfolding head-hashes

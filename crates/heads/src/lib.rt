@@ -9,7 +9,7 @@ ghost use Rattle.paper.specs.Lists.{tally, hashes-from};
 ghost use Rattle.paper.specs.Text.{flat};
 ghost use Rattle.tables.specs.Tables.{tables, graph, headAt};
 ghost use Rattle.tables.specs.Valid.{Valid};
-ghost use Rattle.answer_buffer.specs.Answers.{listed, filled};
+ghost use Rattle.answer_buffer.specs.Answers.{listAnswer, filled};
 ghost use Rattle.answer_buffer.specs.AnswerLaws.{Holds};
 ghost use Rattle.heads.specs.Heads.{head-hashes, head-places, node-in, Askable};
 use answer_buffer::Listed;
@@ -42,7 +42,7 @@ pub fn heads(
     out: &mut [u8],
 ) -> Listed
     requires { ⌜ Valid (tables (now hashes) (now nodes) (now targets) (now nexts) (now clocks) (now counts)) ⌝ }
-    ensures { λ r. ⌜ r ≡ listed (head-hashes (graph (tables (now (hashes .entry)) (now (nodes .entry)) (now (targets .entry)) (now (nexts .entry)) (now (clocks .entry)) (now (counts .entry))))) (length (now (out .entry))) ⌝ }
+    ensures { λ r. ⌜ r ≡ listAnswer (head-hashes (graph (tables (now (hashes .entry)) (now (nodes .entry)) (now (targets .entry)) (now (nexts .entry)) (now (clocks .entry)) (now (counts .entry))))) (length (now (out .entry))) ⌝ }
     ensures { λ _. ⌜ now (out .exit) ≡ filled (head-hashes (graph (tables (now (hashes .entry)) (now (nodes .entry)) (now (targets .entry)) (now (nexts .entry)) (now (clocks .entry)) (now (counts .entry))))) (now (out .entry)) ⌝ }
 {
     let n = counts[0] as usize;
@@ -96,7 +96,7 @@ pub fn head_indexes(
     out: &mut [u32],
 ) -> Listed
     requires { ⌜ Valid (tables (now hashes) (now nodes) (now targets) (now nexts) (now clocks) (now counts)) ⌝ }
-    ensures { λ r. ⌜ r ≡ listed (head-places (graph (tables (now (hashes .entry)) (now (nodes .entry)) (now (targets .entry)) (now (nexts .entry)) (now (clocks .entry)) (now (counts .entry))))) (length (now (out .entry))) ⌝ }
+    ensures { λ r. ⌜ r ≡ listAnswer (head-places (graph (tables (now (hashes .entry)) (now (nodes .entry)) (now (targets .entry)) (now (nexts .entry)) (now (clocks .entry)) (now (counts .entry))))) (length (now (out .entry))) ⌝ }
     ensures { λ _. ⌜ now (out .exit) ≡ filled (head-places (graph (tables (now (hashes .entry)) (now (nodes .entry)) (now (targets .entry)) (now (nexts .entry)) (now (clocks .entry)) (now (counts .entry))))) (now (out .entry)) ⌝ }
 {
     let n = counts[0] as usize;

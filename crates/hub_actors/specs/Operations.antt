@@ -7,7 +7,7 @@ use Rattle.paper.specs.Numbers.{number, not-valid}
 use Rattle.tables.specs.Tables.{Tables, tables, edgeRoom}
 use Rattle.tables.specs.Valid.{Valid}
 use Rattle.edges.specs.Told.{Checked, valid-bounding, checked-refused}
-use Rattle.actors.specs.Actors.{numberOf, inserting, inserted, removing, removed, ifDone}
+use Rattle.actors.specs.Actors.{actorNumber, inserting, actorInserted, removing, actorRemoved, ifActorsDone}
 
 -- the tables with the nodes ns, the clocks cs and the counts us
 abbrev pub renewed : Tables → List ℕ → List ℕ → List ℕ → Tables
@@ -18,10 +18,10 @@ same t a b c = rw (a, b, c)
 
 -- one more at place p: the number, and the tables afterwards
 abbrev pub insertNumber : ℕ → Tables → ℕ
-insertNumber p t = numberOf (inserting t p)
+insertNumber p t = actorNumber (inserting t p)
 
 abbrev pub insertTables : ℕ → Tables → Tables
-insertTables p t = ifDone (inserting t p) (inserted t p) t
+insertTables p t = ifActorsDone (inserting t p) (actorInserted t p) t
 
 -- the tables t are valid, the answer is r, and the nodes ns, the clocks cs and the counts us are left; or they are not, and the answer is 1
 abbrev pub Inserted : ℕ → ℕ → List ℕ → List ℕ → List ℕ → Tables → Type 0
@@ -32,10 +32,10 @@ inserted-refused p r ns cs us t l o = checked-refused Valid valid-bounding t l (
 
 -- the one at place p away: the number, and the tables afterwards
 abbrev pub removeNumber : ℕ → Tables → ℕ
-removeNumber p t = numberOf (removing t p)
+removeNumber p t = actorNumber (removing t p)
 
 abbrev pub removeTables : ℕ → Tables → Tables
-removeTables p t = ifDone (removing t p) (removed t p) t
+removeTables p t = ifActorsDone (removing t p) (actorRemoved t p) t
 
 -- the tables t are valid, the answer is r, and the nodes ns, the clocks cs and the counts us are left; or they are not, and the answer is 1
 abbrev pub Removed : ℕ → ℕ → List ℕ → List ℕ → List ℕ → Tables → Type 0

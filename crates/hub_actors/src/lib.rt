@@ -8,7 +8,7 @@ ghost use Rattle.tables.specs.Valid.{Valid};
 ghost use mathlib.Core.Bool.{true};
 ghost use mathlib.Core.Logic.{_↔_};
 ghost use Rattle.edges.specs.Edges.{lent};
-ghost use Rattle.edges.specs.Told.{Asked};
+ghost use Rattle.edges.specs.Told.{AskedOverFirst};
 ghost use Rattle.hub_actors.specs.Operations.{Inserted, Removed};
 use edges::Edge;
 
@@ -41,7 +41,7 @@ fn insert_told(
     counts: &mut [u32],
     place: u64,
 ) -> u32
-    ensures { λ r. ⌜ Asked (Inserted place r (now (nodes .exit)) (now (clocks .exit)) (now (counts .exit))) ((r ≡ number not-valid) × (now (nodes .exit) ≡ now (nodes .entry)) × (now (clocks .exit) ≡ now (clocks .entry)) × (now (counts .exit) ≡ now (counts .entry))) e (tables (now (hashes .entry)) (now (nodes .entry)) (now (targets .entry)) (now (nexts .entry)) (now (clocks .entry)) (now (counts .entry))) ⌝ }
+    ensures { λ r. ⌜ AskedOverFirst (Inserted place r (now (nodes .exit)) (now (clocks .exit)) (now (counts .exit))) ((r ≡ number not-valid) × (now (nodes .exit) ≡ now (nodes .entry)) × (now (clocks .exit) ≡ now (clocks .entry)) × (now (counts .exit) ≡ now (counts .entry))) e (tables (now (hashes .entry)) (now (nodes .entry)) (now (targets .entry)) (now (nexts .entry)) (now (clocks .entry)) (now (counts .entry))) ⌝ }
 {
     if targets.len() < e {
         return 1;
@@ -107,7 +107,7 @@ fn remove_told(
     counts: &mut [u32],
     place: u64,
 ) -> u32
-    ensures { λ r. ⌜ Asked (Removed place r (now (nodes .exit)) (now (clocks .exit)) (now (counts .exit))) ((r ≡ number not-valid) × (now (nodes .exit) ≡ now (nodes .entry)) × (now (clocks .exit) ≡ now (clocks .entry)) × (now (counts .exit) ≡ now (counts .entry))) e (tables (now (hashes .entry)) (now (nodes .entry)) (now (targets .entry)) (now (nexts .entry)) (now (clocks .entry)) (now (counts .entry))) ⌝ }
+    ensures { λ r. ⌜ AskedOverFirst (Removed place r (now (nodes .exit)) (now (clocks .exit)) (now (counts .exit))) ((r ≡ number not-valid) × (now (nodes .exit) ≡ now (nodes .entry)) × (now (clocks .exit) ≡ now (clocks .entry)) × (now (counts .exit) ≡ now (counts .entry))) e (tables (now (hashes .entry)) (now (nodes .entry)) (now (targets .entry)) (now (nexts .entry)) (now (clocks .entry)) (now (counts .entry))) ⌝ }
 {
     if targets.len() < e {
         return 1;

@@ -8,7 +8,7 @@ ghost use Rattle.tables.specs.Tables.{tables};
 ghost use Rattle.tables.specs.Valid.{Valid};
 ghost use Rattle.judge.specs.Judge.{change};
 ghost use Rattle.edges.specs.Edges.{lent};
-ghost use Rattle.edges.specs.Told.{Told, Beyond};
+ghost use Rattle.edges.specs.Told.{OverFirst, Beyond};
 ghost use Rattle.hub_add.specs.Operations.{Added, unknownIn};
 use edges::Edge;
 use judge::Judged;
@@ -86,7 +86,7 @@ fn add_told(
     deps: &[u8],
     unknown: &mut [u64],
 ) -> u32
-    ensures { λ r. ⌜ Told (Added (change (now (hash .entry)) actor seq max ops (now (deps .entry))) (now (unknown .entry)) (now (unknown .exit))) e (tables (now (hashes .entry)) (now (nodes .entry)) (now (targets .entry)) (now (nexts .entry)) (now (clocks .entry)) (now (counts .entry))) r (tables (now (hashes .exit)) (now (nodes .exit)) (now (targets .exit)) (now (nexts .exit)) (now (clocks .exit)) (now (counts .exit)))
+    ensures { λ r. ⌜ OverFirst (Added (change (now (hash .entry)) actor seq max ops (now (deps .entry))) (now (unknown .entry)) (now (unknown .exit))) e (tables (now (hashes .entry)) (now (nodes .entry)) (now (targets .entry)) (now (nexts .entry)) (now (clocks .entry)) (now (counts .entry))) r (tables (now (hashes .exit)) (now (nodes .exit)) (now (targets .exit)) (now (nexts .exit)) (now (clocks .exit)) (now (counts .exit)))
         × (Beyond e (tables (now (hashes .entry)) (now (nodes .entry)) (now (targets .entry)) (now (nexts .entry)) (now (clocks .entry)) (now (counts .entry))) → now (unknown .exit) ≡ now (unknown .entry)) ⌝ }
 {
     if targets.len() < e {

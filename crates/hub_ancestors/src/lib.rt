@@ -7,7 +7,7 @@ ghost use mathlib.Core.Logic.{_↔_};
 ghost use Rattle.tables.specs.Tables.{tables};
 ghost use Rattle.tables.specs.Valid.{Valid};
 ghost use Rattle.edges.specs.Edges.{lent};
-ghost use Rattle.edges.specs.Told.{Asked};
+ghost use Rattle.edges.specs.Told.{AskedOverFirst};
 ghost use Rattle.hub_answer.specs.Asks.{Untouched};
 ghost use Rattle.hub_ancestors.specs.Operations.{RemoveAncestors};
 use edges::Edge;
@@ -57,7 +57,7 @@ fn remove_ancestors_told(
     out: &mut [u8],
     told: &mut [u64],
 ) -> u32
-    ensures { λ r. ⌜ Asked (RemoveAncestors (now (list .entry)) (now (heads .entry)) (now (out .entry)) (now (told .entry)) r (now (out .exit)) (now (told .exit))) (Untouched (now (out .entry)) (now (told .entry)) r (now (out .exit)) (now (told .exit))) e (tables (now (hashes .entry)) (now (nodes .entry)) (now (targets .entry)) (now (nexts .entry)) (now (clocks .entry)) (now (counts .entry))) ⌝ }
+    ensures { λ r. ⌜ AskedOverFirst (RemoveAncestors (now (list .entry)) (now (heads .entry)) (now (out .entry)) (now (told .entry)) r (now (out .exit)) (now (told .exit))) (Untouched (now (out .entry)) (now (told .entry)) r (now (out .exit)) (now (told .exit))) e (tables (now (hashes .entry)) (now (nodes .entry)) (now (targets .entry)) (now (nexts .entry)) (now (clocks .entry)) (now (counts .entry))) ⌝ }
 {
     if targets.len() < e {
         return 1;

@@ -11,8 +11,8 @@ use Rattle.lent_place.specs.Places.{toldIn}
 use Rattle.edges.specs.Told.{Answered}
 use Rattle.answer_buffer.specs.declared.Place.{Place}
 use Rattle.answer_buffer.specs.declared.Place.the-variants.{At, Malformed as NoPlace, NotFound as Nowhere}
-use Rattle.answer_buffer.specs.declared.Told.{Told}
-use Rattle.answer_buffer.specs.declared.Told.the-variants.{Yes, No, Malformed as Untold}
+use Rattle.answer_buffer.specs.declared.YesNo.{YesNo}
+use Rattle.answer_buffer.specs.declared.YesNo.the-variants.{Yes, No, Malformed as Untold}
 use Rattle.answer_buffer.specs.declared.Listed.{Listed}
 use Rattle.answer_buffer.specs.declared.Listed.the-variants.{Done, Malformed, NotFound, NoOwner, Short}
 
@@ -24,9 +24,9 @@ pub data Reply : Type 0 where
   refuses : Outcome → Reply
 
 -- the paper's number
-abbrev pub numberOf : Reply → ℕ
-numberOf (gives n) = number done
-numberOf (refuses o) = number o
+abbrev pub replyNumber : Reply → ℕ
+replyNumber (gives n) = number done
+replyNumber (refuses o) = number o
 
 -- the places afterwards: a refusal tells nothing
 abbrev pub toldBy : Reply → List ℕ → List ℕ
@@ -46,17 +46,17 @@ ofPlace (At k) = gives k
 ofPlace NoPlace = refuses malformed
 ofPlace Nowhere = refuses not-found
 
-abbrev pub ofTold : Told → Reply
-ofTold Yes = gives 1
-ofTold No = gives 0
-ofTold Untold = refuses malformed
+abbrev pub ofYesNo : YesNo → Reply
+ofYesNo Yes = gives 1
+ofYesNo No = gives 0
+ofYesNo Untold = refuses malformed
 
 abbrev pub ofBool : Bool → Reply
 ofBool b = gives (cond b 1 0)
 
 -- the number r, the buffer out′ and the places told′ are those of the answer, read as a reply, and of the buffer's definition
 pub record Says {L : Type 0} (of : L → Reply) (answer : Tables → L) (buffer : Tables → List ℕ) (told : List ℕ) (r : ℕ) (out′ told′ : List ℕ) (t : Tables) : Type 0 where
-  pub number : r ≡ numberOf (of (answer t))
+  pub number : r ≡ replyNumber (of (answer t))
   pub filled : out′ ≡ buffer t
   pub places : told′ ≡ toldBy (of (answer t)) told
 

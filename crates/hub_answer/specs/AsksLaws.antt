@@ -10,7 +10,7 @@ use Rattle.paper.specs.Numbers.{number, not-valid}
 use Rattle.tables.specs.Tables.{Tables, edgeRoom}
 use Rattle.tables.specs.Valid.{Valid}
 use Rattle.edges.specs.Told.{Answered, valid-bounding, answered-refused}
-use Rattle.hub_answer.specs.Asks.{Reply, numberOf, toldBy, Says, Untouched, Asks}
+use Rattle.hub_answer.specs.Asks.{Reply, replyNumber, toldBy, Says, Untouched, Asks}
 
 module _ {L : Type 0} (of : L → Reply) (answer : Tables → L) (buffer : Tables → List ℕ) (out told : List ℕ) (t : Tables) where
   -- more edges than the core has room for: 1 is right
@@ -22,8 +22,8 @@ module _ {L : Type 0} (of : L → Reply) (answer : Tables → L) (buffer : Table
   asks-invalid i e = record { met = λ v. absurd (failed i e v); unmet = λ _. (refl, refl, refl) }
 
   -- the check passed, the core answered a, and its number and what it tells were given
-  pub asks-valid : (r : ℕ) (out′ told′ : List ℕ) → Valid t → (a : L) → a ≡ answer t → out′ ≡ buffer t → r ≡ numberOf (of a) → told′ ≡ toldBy (of a) told → Asks of answer buffer out told r out′ told′ t
+  pub asks-valid : (r : ℕ) (out′ told′ : List ℕ) → Valid t → (a : L) → a ≡ answer t → out′ ≡ buffer t → r ≡ replyNumber (of a) → told′ ≡ toldBy (of a) told → Asks of answer buffer out told r out′ told′ t
   asks-valid r out′ told′ v a e o n d = record {
-    met = λ _. record { number = n ∙ ap (λ (l : L). numberOf (of l)) e; filled = o; places = d ∙ ap (λ (l : L). toldBy (of l) told) e };
+    met = λ _. record { number = n ∙ ap (λ (l : L). replyNumber (of l)) e; filled = o; places = d ∙ ap (λ (l : L). toldBy (of l) told) e };
     unmet = λ w. absurd (w v);
   }

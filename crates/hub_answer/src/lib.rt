@@ -1,13 +1,13 @@
 // The answers of public questions: the paper's number of an answer, and how much it takes, told to the caller in a lent place.
 ghost use mathlib.Core.Path.{_≡_};
-ghost use Rattle.hub_answer.specs.Asks.{numberOf, toldBy, ofListed, ofPlace, ofTold, ofBool, gives};
+ghost use Rattle.hub_answer.specs.Asks.{replyNumber, toldBy, ofListed, ofPlace, ofYesNo, ofBool, gives};
 use answer_buffer::Listed;
 use answer_buffer::Place;
-use answer_buffer::Told;
+use answer_buffer::YesNo;
 
 // The answer of a question with a buffer.
 pub fn listed(l: Listed, told: &mut [u64]) -> u32
-    ensures { λ r. ⌜ r ≡ numberOf (ofListed l) ⌝ }
+    ensures { λ r. ⌜ r ≡ replyNumber (ofListed l) ⌝ }
     ensures { λ _. ⌜ now (told .exit) ≡ toldBy (ofListed l) (now (told .entry)) ⌝ }
 {
     match l {
@@ -24,7 +24,7 @@ pub fn listed(l: Listed, told: &mut [u64]) -> u32
 
 // The answer of a question for a node's number.
 pub fn place(p: Place, told: &mut [u64]) -> u32
-    ensures { λ r. ⌜ r ≡ numberOf (ofPlace p) ⌝ }
+    ensures { λ r. ⌜ r ≡ replyNumber (ofPlace p) ⌝ }
     ensures { λ _. ⌜ now (told .exit) ≡ toldBy (ofPlace p) (now (told .entry)) ⌝ }
 {
     match p {
@@ -38,26 +38,26 @@ pub fn place(p: Place, told: &mut [u64]) -> u32
 }
 
 // The answer of a question for yes or no.
-pub fn yes_no(t: Told, told: &mut [u64]) -> u32
-    ensures { λ r. ⌜ r ≡ numberOf (ofTold t) ⌝ }
-    ensures { λ _. ⌜ now (told .exit) ≡ toldBy (ofTold t) (now (told .entry)) ⌝ }
+pub fn yes_no(t: YesNo, told: &mut [u64]) -> u32
+    ensures { λ r. ⌜ r ≡ replyNumber (ofYesNo t) ⌝ }
+    ensures { λ _. ⌜ now (told .exit) ≡ toldBy (ofYesNo t) (now (told .entry)) ⌝ }
 {
     match t {
-        Told::Yes => {
+        YesNo::Yes => {
             lent_place::tell(told, 1);
             0
         }
-        Told::No => {
+        YesNo::No => {
             lent_place::tell(told, 0);
             0
         }
-        Told::Malformed => 2,
+        YesNo::Malformed => 2,
     }
 }
 
 // The answer of a question for yes or no that is never refused.
 pub fn yes(b: bool, told: &mut [u64]) -> u32
-    ensures { λ r. ⌜ r ≡ numberOf (ofBool b) ⌝ }
+    ensures { λ r. ⌜ r ≡ replyNumber (ofBool b) ⌝ }
     ensures { λ _. ⌜ now (told .exit) ≡ toldBy (ofBool b) (now (told .entry)) ⌝ }
 {
     if b {
@@ -70,7 +70,7 @@ pub fn yes(b: bool, told: &mut [u64]) -> u32
 
 // The answer of a question for a number, which is never refused.
 pub fn count(n: u32, told: &mut [u64]) -> u32
-    ensures { λ r. ⌜ r ≡ numberOf (gives n) ⌝ }
+    ensures { λ r. ⌜ r ≡ replyNumber (gives n) ⌝ }
     ensures { λ _. ⌜ now (told .exit) ≡ toldBy (gives n) (now (told .entry)) ⌝ }
 {
     lent_place::tell(told, n as u64);
@@ -79,7 +79,7 @@ pub fn count(n: u32, told: &mut [u64]) -> u32
 
 // The same for how many there are.
 pub fn size(n: usize, told: &mut [u64]) -> u32
-    ensures { λ r. ⌜ r ≡ numberOf (gives n) ⌝ }
+    ensures { λ r. ⌜ r ≡ replyNumber (gives n) ⌝ }
     ensures { λ _. ⌜ now (told .exit) ≡ toldBy (gives n) (now (told .entry)) ⌝ }
 {
     lent_place::tell(told, n as u64);

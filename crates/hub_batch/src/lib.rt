@@ -1,22 +1,22 @@
 // Opening a queue or a batch, and pushing to a batch, from C. Each function answers the paper's number of what the operation answers.
 ghost use mathlib.Core.Path.{_≡_};
-ghost use Rattle.waiting.specs.Valid.{store, numberOf as numberOfOpened};
-ghost use Rattle.batch.specs.Push.{numberOf as numberOfPushed};
+ghost use Rattle.waiting.specs.Valid.{store, storeOpenedNumber};
+ghost use Rattle.batch.specs.Push.{pushedNumber};
 ghost use Rattle.hub_batch.specs.Operations.{QueueOpened, BatchPushed};
 use batch::Pushed;
-use waiting::Opened;
+use waiting::StoreOpened;
 
-fn opened(a: Opened) -> u32
-    ensures { λ r. ⌜ r ≡ numberOfOpened a ⌝ }
+fn opened(a: StoreOpened) -> u32
+    ensures { λ r. ⌜ r ≡ storeOpenedNumber a ⌝ }
 {
     match a {
-        Opened::Done => 0,
-        Opened::NotValid => 1,
+        StoreOpened::Done => 0,
+        StoreOpened::NotValid => 1,
     }
 }
 
 fn pushed(a: Pushed) -> u32
-    ensures { λ r. ⌜ r ≡ numberOfPushed a ⌝ }
+    ensures { λ r. ⌜ r ≡ pushedNumber a ⌝ }
 {
     match a {
         Pushed::Done => 0,

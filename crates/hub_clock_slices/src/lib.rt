@@ -2,7 +2,7 @@
 // entry, are told in a lent place, which every number but 0 leaves as it was.
 ghost use mathlib.Core.Path.{_≡_};
 ghost use Rattle.clock_checked.specs.Told.{getTold, opTold, insertTold, removeTold, afterTold, beforeTold};
-ghost use Rattle.hub_clock_slices.specs.Face.{yesIn, entryIn, Asked, Gave, Changed, rangeOf};
+ghost use Rattle.hub_clock_slices.specs.Face.{sliceYesIn, entryIn, SliceAsked, SliceGave, SliceChanged, rangeOf};
 use clock::Range;
 use clock_checked::Answer;
 use clock_checked::Got;
@@ -15,7 +15,7 @@ fn wide(x: u32) -> u64
 
 // Tells yes or no.
 fn tell_yes(a: Answer, told: &mut [u64])
-    ensures { λ r. ⌜ now (told .exit) ≡ yesIn a (now (told .entry)) ⌝ }
+    ensures { λ r. ⌜ now (told .exit) ≡ sliceYesIn a (now (told .entry)) ⌝ }
 {
     match a {
         Answer::Yes => lent_place::tell(told, 1),
@@ -53,7 +53,7 @@ fn range_of(kind: u32) -> Range
 // The entry at a place, nothing for a place not below the count: 1 or 0.
 #[no_mangle]
 pub extern "C" fn cg_clock_get(entries: &[u32], count: usize, place: usize, told: &mut [u64]) -> u32
-    ensures { λ r. ⌜ Gave (getTold (now (entries .entry)) count place) (now (told .entry)) r (now (told .exit)) ⌝ }
+    ensures { λ r. ⌜ SliceGave (getTold (now (entries .entry)) count place) (now (told .entry)) r (now (told .exit)) ⌝ }
 {
     let g = clock_checked::try_get(entries, count, place);
     tell_entry(g, told);
@@ -69,7 +69,7 @@ pub extern "C" fn cg_clock_op_covers(
     counter: u64,
     told: &mut [u64],
 ) -> u32
-    ensures { λ r. ⌜ Asked (opTold (now (entries .entry)) count actor counter) (now (told .entry)) r (now (told .exit)) ⌝ }
+    ensures { λ r. ⌜ SliceAsked (opTold (now (entries .entry)) count actor counter) (now (told .entry)) r (now (told .exit)) ⌝ }
 {
     let a = clock_checked::try_op_covers(entries, count, actor, counter);
     tell_yes(a, told);
@@ -83,7 +83,7 @@ pub extern "C" fn cg_clock_rewrite_with_new_actor(
     count: usize,
     place: usize,
 ) -> u32
-    ensures { λ r. ⌜ Changed (insertTold (now (entries .entry)) count place) r (now (entries .exit)) ⌝ }
+    ensures { λ r. ⌜ SliceChanged (insertTold (now (entries .entry)) count place) r (now (entries .exit)) ⌝ }
 {
     clock_checked::number(clock_checked::try_rewrite_with_new_actor(entries, count, place))
 }
@@ -91,7 +91,7 @@ pub extern "C" fn cg_clock_rewrite_with_new_actor(
 // The actor at a place goes: 1, 5 or 0. The count is the caller's to lower.
 #[no_mangle]
 pub extern "C" fn cg_clock_remove_actor(entries: &mut [u32], count: usize, place: usize) -> u32
-    ensures { λ r. ⌜ Changed (removeTold (now (entries .entry)) count place) r (now (entries .exit)) ⌝ }
+    ensures { λ r. ⌜ SliceChanged (removeTold (now (entries .entry)) count place) r (now (entries .exit)) ⌝ }
 {
     clock_checked::number(clock_checked::try_remove_actor(entries, count, place))
 }
@@ -108,7 +108,7 @@ pub extern "C" fn cg_clock_visible_after(
     counter: u64,
     told: &mut [u64],
 ) -> u32
-    ensures { λ r. ⌜ Asked (afterTold (rangeOf kind) (now (before .entry)) n (now (after .entry)) m actor counter) (now (told .entry)) r (now (told .exit)) ⌝ }
+    ensures { λ r. ⌜ SliceAsked (afterTold (rangeOf kind) (now (before .entry)) n (now (after .entry)) m actor counter) (now (told .entry)) r (now (told .exit)) ⌝ }
 {
     let a = clock_checked::try_visible_after(range_of(kind), before, n, after, m, actor, counter);
     tell_yes(a, told);
@@ -127,7 +127,7 @@ pub extern "C" fn cg_clock_visible_before(
     counter: u64,
     told: &mut [u64],
 ) -> u32
-    ensures { λ r. ⌜ Asked (beforeTold (rangeOf kind) (now (before .entry)) n (now (after .entry)) m actor counter) (now (told .entry)) r (now (told .exit)) ⌝ }
+    ensures { λ r. ⌜ SliceAsked (beforeTold (rangeOf kind) (now (before .entry)) n (now (after .entry)) m actor counter) (now (told .entry)) r (now (told .exit)) ⌝ }
 {
     let a = clock_checked::try_visible_before(range_of(kind), before, n, after, m, actor, counter);
     tell_yes(a, told);

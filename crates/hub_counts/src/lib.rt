@@ -8,7 +8,7 @@ ghost use mathlib.Core.List.{[]};
 ghost use Rattle.tables.specs.Tables.{tables};
 ghost use Rattle.tables.specs.Valid.{Valid};
 ghost use Rattle.edges.specs.Edges.{lent};
-ghost use Rattle.edges.specs.Told.{Asked};
+ghost use Rattle.edges.specs.Told.{AskedOverFirst};
 ghost use Rattle.hub_answer.specs.Asks.{Untouched};
 ghost use Rattle.hub_counts.specs.Operations.{SeqForActor, MaxOpForActor, MaxOp};
 use edges::Edge;
@@ -44,7 +44,7 @@ fn seq_for_actor_told(
     actor: u64,
     told: &mut [u64],
 ) -> u32
-    ensures { λ r. ⌜ Asked (SeqForActor actor (now (told .entry)) r (now (told .exit))) (Untouched [] (now (told .entry)) r [] (now (told .exit))) e (tables (now (hashes .entry)) (now (nodes .entry)) (now (targets .entry)) (now (nexts .entry)) (now (clocks .entry)) (now (counts .entry))) ⌝ }
+    ensures { λ r. ⌜ AskedOverFirst (SeqForActor actor (now (told .entry)) r (now (told .exit))) (Untouched [] (now (told .entry)) r [] (now (told .exit))) e (tables (now (hashes .entry)) (now (nodes .entry)) (now (targets .entry)) (now (nexts .entry)) (now (clocks .entry)) (now (counts .entry))) ⌝ }
 {
     if targets.len() < e {
         return 1;
@@ -125,7 +125,7 @@ fn max_op_for_actor_told(
     actor: u64,
     told: &mut [u64],
 ) -> u32
-    ensures { λ r. ⌜ Asked (MaxOpForActor actor (now (told .entry)) r (now (told .exit))) (Untouched [] (now (told .entry)) r [] (now (told .exit))) e (tables (now (hashes .entry)) (now (nodes .entry)) (now (targets .entry)) (now (nexts .entry)) (now (clocks .entry)) (now (counts .entry))) ⌝ }
+    ensures { λ r. ⌜ AskedOverFirst (MaxOpForActor actor (now (told .entry)) r (now (told .exit))) (Untouched [] (now (told .entry)) r [] (now (told .exit))) e (tables (now (hashes .entry)) (now (nodes .entry)) (now (targets .entry)) (now (nexts .entry)) (now (clocks .entry)) (now (counts .entry))) ⌝ }
 {
     if targets.len() < e {
         return 1;
@@ -204,7 +204,7 @@ fn max_op_told(
     counts: &[u32],
     told: &mut [u64],
 ) -> u32
-    ensures { λ r. ⌜ Asked (MaxOp (now (told .entry)) r (now (told .exit))) (Untouched [] (now (told .entry)) r [] (now (told .exit))) e (tables (now (hashes .entry)) (now (nodes .entry)) (now (targets .entry)) (now (nexts .entry)) (now (clocks .entry)) (now (counts .entry))) ⌝ }
+    ensures { λ r. ⌜ AskedOverFirst (MaxOp (now (told .entry)) r (now (told .exit))) (Untouched [] (now (told .entry)) r [] (now (told .exit))) e (tables (now (hashes .entry)) (now (nodes .entry)) (now (targets .entry)) (now (nexts .entry)) (now (clocks .entry)) (now (counts .entry))) ⌝ }
 {
     if targets.len() < e {
         return 1;

@@ -8,7 +8,7 @@ ghost use mathlib.Core.List.{[]};
 ghost use Rattle.tables.specs.Tables.{tables};
 ghost use Rattle.tables.specs.Valid.{Valid};
 ghost use Rattle.edges.specs.Edges.{lent};
-ghost use Rattle.edges.specs.Told.{Asked};
+ghost use Rattle.edges.specs.Told.{AskedOverFirst};
 ghost use Rattle.hub_answer.specs.Asks.{Untouched};
 ghost use Rattle.hub_current_heads.specs.Operations.{HeadsAreCurrent};
 use edges::Edge;
@@ -52,7 +52,7 @@ fn heads_are_current_told(
     list: &[u8],
     told: &mut [u64],
 ) -> u32
-    ensures { λ r. ⌜ Asked (HeadsAreCurrent (now (list .entry)) (now (told .entry)) r (now (told .exit))) (Untouched [] (now (told .entry)) r [] (now (told .exit))) e (tables (now (hashes .entry)) (now (nodes .entry)) (now (targets .entry)) (now (nexts .entry)) (now (clocks .entry)) (now (counts .entry))) ⌝ }
+    ensures { λ r. ⌜ AskedOverFirst (HeadsAreCurrent (now (list .entry)) (now (told .entry)) r (now (told .exit))) (Untouched [] (now (told .entry)) r [] (now (told .exit))) e (tables (now (hashes .entry)) (now (nodes .entry)) (now (targets .entry)) (now (nexts .entry)) (now (clocks .entry)) (now (counts .entry))) ⌝ }
 {
     if targets.len() < e {
         return 1;

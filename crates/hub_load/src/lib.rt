@@ -5,7 +5,7 @@ ghost use mathlib.Core.Path.{_≡_};
 ghost use Rattle.tables.specs.Tables.{tables};
 ghost use Rattle.columns.specs.Columns.{columns};
 ghost use Rattle.edges.specs.Edges.{lent};
-ghost use Rattle.edges.specs.Told.{Told};
+ghost use Rattle.edges.specs.Told.{OverFirst};
 ghost use Rattle.hub_load.specs.Operations.{Loaded};
 use edges::Edge;
 
@@ -70,7 +70,7 @@ fn load_told(
     heads: &[u8],
     count: u64,
 ) -> u32
-    ensures { λ r. ⌜ Told (Loaded (columns (now (ids .entry)) (now (actors .entry)) (now (seqs .entry)) (now (maxes .entry)) (now (ops .entry)) (now (deps .entry)) (now (values .entry)) (now (heads .entry)) count)) e (tables (now (hashes .entry)) (now (nodes .entry)) (now (targets .entry)) (now (nexts .entry)) (now (clocks .entry)) (now (counts .entry))) r (tables (now (hashes .exit)) (now (nodes .exit)) (now (targets .exit)) (now (nexts .exit)) (now (clocks .exit)) (now (counts .exit))) ⌝ }
+    ensures { λ r. ⌜ OverFirst (Loaded (columns (now (ids .entry)) (now (actors .entry)) (now (seqs .entry)) (now (maxes .entry)) (now (ops .entry)) (now (deps .entry)) (now (values .entry)) (now (heads .entry)) count)) e (tables (now (hashes .entry)) (now (nodes .entry)) (now (targets .entry)) (now (nexts .entry)) (now (clocks .entry)) (now (counts .entry))) r (tables (now (hashes .exit)) (now (nodes .exit)) (now (targets .exit)) (now (nexts .exit)) (now (clocks .exit)) (now (counts .exit))) ⌝ }
 {
     if targets.len() < e {
         return 1;

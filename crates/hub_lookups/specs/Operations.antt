@@ -4,7 +4,7 @@ use mathlib.Core.List.{List}
 use Prim.Native.Nat.{ℕ}
 use Rattle.tables.specs.Tables.{Tables, graph}
 use Rattle.lookups.specs.Lookups.{looked-up, has}
-use Rattle.hub_answer.specs.Asks.{ofPlace, ofTold, Tells}
+use Rattle.hub_answer.specs.Asks.{ofPlace, ofYesNo, Tells}
 
 -- asking the tables t for the node of the hash answers r and leaves told′
 abbrev pub HashToIndex : List ℕ → List ℕ → ℕ → List ℕ → Tables → Type 0
@@ -12,4 +12,4 @@ HashToIndex hash told r told′ t = Tells ofPlace (λ t. looked-up (graph t) has
 
 -- asking whether the hash is known
 abbrev pub HasChange : List ℕ → List ℕ → ℕ → List ℕ → Tables → Type 0
-HasChange hash told r told′ t = Tells ofTold (λ t. has (graph t) hash) told r told′ t
+HasChange hash told r told′ t = Tells ofYesNo (λ t. has (graph t) hash) told r told′ t

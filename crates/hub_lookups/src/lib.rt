@@ -8,7 +8,7 @@ ghost use mathlib.Core.List.{[]};
 ghost use Rattle.tables.specs.Tables.{tables};
 ghost use Rattle.tables.specs.Valid.{Valid};
 ghost use Rattle.edges.specs.Edges.{lent};
-ghost use Rattle.edges.specs.Told.{Asked};
+ghost use Rattle.edges.specs.Told.{AskedOverFirst};
 ghost use Rattle.hub_answer.specs.Asks.{Untouched};
 ghost use Rattle.hub_lookups.specs.Operations.{HashToIndex, HasChange};
 use edges::Edge;
@@ -44,7 +44,7 @@ fn hash_to_index_told(
     hash: &[u8],
     told: &mut [u64],
 ) -> u32
-    ensures { λ r. ⌜ Asked (HashToIndex (now (hash .entry)) (now (told .entry)) r (now (told .exit))) (Untouched [] (now (told .entry)) r [] (now (told .exit))) e (tables (now (hashes .entry)) (now (nodes .entry)) (now (targets .entry)) (now (nexts .entry)) (now (clocks .entry)) (now (counts .entry))) ⌝ }
+    ensures { λ r. ⌜ AskedOverFirst (HashToIndex (now (hash .entry)) (now (told .entry)) r (now (told .exit))) (Untouched [] (now (told .entry)) r [] (now (told .exit))) e (tables (now (hashes .entry)) (now (nodes .entry)) (now (targets .entry)) (now (nexts .entry)) (now (clocks .entry)) (now (counts .entry))) ⌝ }
 {
     if targets.len() < e {
         return 1;
@@ -125,7 +125,7 @@ fn has_change_told(
     hash: &[u8],
     told: &mut [u64],
 ) -> u32
-    ensures { λ r. ⌜ Asked (HasChange (now (hash .entry)) (now (told .entry)) r (now (told .exit))) (Untouched [] (now (told .entry)) r [] (now (told .exit))) e (tables (now (hashes .entry)) (now (nodes .entry)) (now (targets .entry)) (now (nexts .entry)) (now (clocks .entry)) (now (counts .entry))) ⌝ }
+    ensures { λ r. ⌜ AskedOverFirst (HasChange (now (hash .entry)) (now (told .entry)) r (now (told .exit))) (Untouched [] (now (told .entry)) r [] (now (told .exit))) e (tables (now (hashes .entry)) (now (nodes .entry)) (now (targets .entry)) (now (nexts .entry)) (now (clocks .entry)) (now (counts .entry))) ⌝ }
 {
     if targets.len() < e {
         return 1;

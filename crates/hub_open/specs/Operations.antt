@@ -7,7 +7,7 @@ use Rattle.paper.specs.Numbers.{number, not-valid}
 use Rattle.tables.specs.Tables.{Tables, tables, edgeRoom}
 use Rattle.tables.specs.Valid.{Lengths}
 use Rattle.edges.specs.Told.{Checked, lengths-bounding, checked-refused}
-use Rattle.actors.specs.Actors.{numberOf, opening, opened, ifDone}
+use Rattle.actors.specs.Actors.{actorNumber, opening, opened, ifActorsDone}
 
 -- the tables with the counts us
 abbrev pub counted : Tables → List ℕ → Tables
@@ -15,10 +15,10 @@ counted t us = tables (t .hashes) (t .nodes) (t .targets) (t .nexts) (t .clocks)
 
 -- the number that opening for a actors gives, and the tables afterwards
 abbrev pub openNumber : ℕ → Tables → ℕ
-openNumber a t = numberOf (opening t a)
+openNumber a t = actorNumber (opening t a)
 
 abbrev pub openTables : ℕ → Tables → Tables
-openTables a t = ifDone (opening t a) (opened t a) t
+openTables a t = ifActorsDone (opening t a) (opened t a) t
 
 -- opening the tables t for a actors answers r and leaves the counts us: checked are the lengths alone
 abbrev pub Opened : ℕ → ℕ → List ℕ → Tables → Type 0

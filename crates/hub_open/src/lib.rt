@@ -5,7 +5,7 @@ ghost use mathlib.Core.Path.{_≡_};
 ghost use Rattle.paper.specs.Numbers.{number, not-valid};
 ghost use Rattle.tables.specs.Tables.{tables};
 ghost use Rattle.edges.specs.Edges.{lent};
-ghost use Rattle.edges.specs.Told.{Asked};
+ghost use Rattle.edges.specs.Told.{AskedOverFirst};
 ghost use Rattle.hub_open.specs.Operations.{Opened};
 use edges::Edge;
 
@@ -38,7 +38,7 @@ fn open_told(
     counts: &mut [u32],
     actors: u64,
 ) -> u32
-    ensures { λ r. ⌜ Asked (Opened actors r (now (counts .exit))) ((r ≡ number not-valid) × (now (counts .exit) ≡ now (counts .entry))) e (tables (now (hashes .entry)) (now (nodes .entry)) (now (targets .entry)) (now (nexts .entry)) (now (clocks .entry)) (now (counts .entry))) ⌝ }
+    ensures { λ r. ⌜ AskedOverFirst (Opened actors r (now (counts .exit))) ((r ≡ number not-valid) × (now (counts .exit) ≡ now (counts .entry))) e (tables (now (hashes .entry)) (now (nodes .entry)) (now (targets .entry)) (now (nexts .entry)) (now (clocks .entry)) (now (counts .entry))) ⌝ }
 {
     if targets.len() < e {
         return 1;

@@ -3,18 +3,18 @@
 use mathlib.Core.List.{List}
 use Prim.Native.Nat.{ℕ}
 use Rattle.lent_place.specs.Places.{toldIn}
-use Rattle.queue.specs.declared.Asked.{Asked}
-use Rattle.queue.specs.declared.Asked.the-variants.{Yes, No, NotValid, Malformed}
-use Rattle.queue.specs.declared.Listed.{Listed}
-use Rattle.queue.specs.declared.Listed.the-variants.{All, Short, NotValid as BadTables}
+use Rattle.queue.specs.declared.QueueAnswer.{QueueAnswer}
+use Rattle.queue.specs.declared.QueueAnswer.the-variants.{Yes, No, NotValid, Malformed}
+use Rattle.queue.specs.declared.QueueListed.{QueueListed}
+use Rattle.queue.specs.declared.QueueListed.the-variants.{All, Short, NotValid as BadTables}
 
-abbrev pub yesIn : Asked → List ℕ → List ℕ
-yesIn Yes told = toldIn 1 told
-yesIn No told = toldIn 0 told
-yesIn NotValid told = told
-yesIn Malformed told = told
+abbrev pub queueYesIn : QueueAnswer → List ℕ → List ℕ
+queueYesIn Yes told = toldIn 1 told
+queueYesIn No told = toldIn 0 told
+queueYesIn NotValid told = told
+queueYesIn Malformed told = told
 
-abbrev pub countIn : Listed → List ℕ → List ℕ
-countIn (All n) told = toldIn n told
-countIn Short told = told
-countIn BadTables told = told
+abbrev pub listedCountIn : QueueListed → List ℕ → List ℕ
+listedCountIn (All n) told = toldIn n told
+listedCountIn Short told = told
+listedCountIn BadTables told = told

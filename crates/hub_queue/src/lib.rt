@@ -2,19 +2,19 @@
 // A yes or no, and how many records are handed out, are told in a lent place, which every number but 0 leaves as it was.
 ghost use mathlib.Core.Path.{_≡_};
 ghost use Rattle.waiting.specs.Valid.{store};
-ghost use Rattle.queue.specs.Hand.{numberOf as numberOfHanded};
-ghost use Rattle.queue.specs.Asked.{numberOf as numberOfAsked, numberOfList};
-ghost use Rattle.branch.specs.Branch.{numberOf as numberOfRemoved};
-ghost use Rattle.hub_queue.specs.Told.{yesIn, countIn};
+ghost use Rattle.queue.specs.Hand.{handedNumber};
+ghost use Rattle.queue.specs.Asked.{queueAnswerNumber, queueListedNumber};
+ghost use Rattle.branch.specs.Branch.{branchNumber};
+ghost use Rattle.hub_queue.specs.Told.{queueYesIn, listedCountIn};
 ghost use Rattle.hub_queue.specs.Operations.{HandedOver, BranchRemoved, QueueIsEmpty, QueueHasHash, QueueHasActorSeq, QueueGiven};
-use branch::Removed;
+use branch::BranchDropped;
 use lent_place::tell;
-use queue::Asked;
 use queue::Handed;
-use queue::Listed;
+use queue::QueueAnswer;
+use queue::QueueListed;
 
 fn handed(a: Handed) -> u32
-    ensures { λ r. ⌜ r ≡ numberOfHanded a ⌝ }
+    ensures { λ r. ⌜ r ≡ handedNumber a ⌝ }
 {
     match a {
         Handed::Done => 0,
@@ -24,56 +24,56 @@ fn handed(a: Handed) -> u32
     }
 }
 
-fn removed(a: Removed) -> u32
-    ensures { λ r. ⌜ r ≡ numberOfRemoved a ⌝ }
+fn removed(a: BranchDropped) -> u32
+    ensures { λ r. ⌜ r ≡ branchNumber a ⌝ }
 {
     match a {
-        Removed::Done => 0,
-        Removed::NotValid => 1,
+        BranchDropped::Done => 0,
+        BranchDropped::NotValid => 1,
     }
 }
 
-fn asked(a: Asked) -> u32
-    ensures { λ r. ⌜ r ≡ numberOfAsked a ⌝ }
+fn asked(a: QueueAnswer) -> u32
+    ensures { λ r. ⌜ r ≡ queueAnswerNumber a ⌝ }
 {
     match a {
-        Asked::Yes => 0,
-        Asked::No => 0,
-        Asked::NotValid => 1,
-        Asked::Malformed => 2,
+        QueueAnswer::Yes => 0,
+        QueueAnswer::No => 0,
+        QueueAnswer::NotValid => 1,
+        QueueAnswer::Malformed => 2,
     }
 }
 
-fn listed(a: Listed) -> u32
-    ensures { λ r. ⌜ r ≡ numberOfList a ⌝ }
+fn listed(a: QueueListed) -> u32
+    ensures { λ r. ⌜ r ≡ queueListedNumber a ⌝ }
 {
     match a {
-        Listed::All(_) => 0,
-        Listed::Short => 15,
-        Listed::NotValid => 1,
+        QueueListed::All(_) => 0,
+        QueueListed::Short => 15,
+        QueueListed::NotValid => 1,
     }
 }
 
 // Tells yes or no.
-fn tell_yes(a: Asked, told: &mut [u64])
-    ensures { λ r. ⌜ now (told .exit) ≡ yesIn a (now (told .entry)) ⌝ }
+fn tell_yes(a: QueueAnswer, told: &mut [u64])
+    ensures { λ r. ⌜ now (told .exit) ≡ queueYesIn a (now (told .entry)) ⌝ }
 {
     match a {
-        Asked::Yes => tell(told, 1),
-        Asked::No => tell(told, 0),
-        Asked::NotValid => {}
-        Asked::Malformed => {}
+        QueueAnswer::Yes => tell(told, 1),
+        QueueAnswer::No => tell(told, 0),
+        QueueAnswer::NotValid => {}
+        QueueAnswer::Malformed => {}
     }
 }
 
 // Tells how many.
-fn tell_count(a: Listed, told: &mut [u64])
-    ensures { λ r. ⌜ now (told .exit) ≡ countIn a (now (told .entry)) ⌝ }
+fn tell_count(a: QueueListed, told: &mut [u64])
+    ensures { λ r. ⌜ now (told .exit) ≡ listedCountIn a (now (told .entry)) ⌝ }
 {
     match a {
-        Listed::All(n) => tell(told, n as u64),
-        Listed::Short => {}
-        Listed::NotValid => {}
+        QueueListed::All(n) => tell(told, n as u64),
+        QueueListed::Short => {}
+        QueueListed::NotValid => {}
     }
 }
 

@@ -7,8 +7,8 @@ use Rattle.paper.specs.Numbers.{number, not-valid}
 use Rattle.tables.specs.Tables.{Tables, changes, edgeRoom}
 use Rattle.tables.specs.Valid.{Valid}
 use Rattle.edges.specs.Told.{valid-bounding}
-use Rattle.waiting.specs.Valid.{Valid as QueueValid}
-use Rattle.release.specs.Release.{Lent, readyOf, releasedAs, ReleasedTo, numberOf}
+use Rattle.waiting.specs.Valid.{StoreValid}
+use Rattle.release.specs.Release.{Lent, readyOf, releasedAs, ReleasedTo, releasedNumber}
 use Rattle.release.specs.declared.Released.{Released}
 use Rattle.release.specs.declared.Released.the-variants.{All, Short, NotValid}
 use Rattle.lent_place.specs.Places.{toldIn, Numbered}
@@ -29,15 +29,15 @@ abbrev pub stock : List ℕ → List ℕ → List ℕ → List ℕ → List ℕ 
 stock hs ns ds cs th tn td l = record { hashes = hs; numbers = ns; deps = ds; count = cs; thashes = th; tnumbers = tn; tdeps = td; told = l }
 
 -- how many are released, told; a refusal leaves the place as it was
-abbrev pub countIn : Released → List ℕ → List ℕ
-countIn (All n) l = toldIn n l
-countIn Short l = l
-countIn NotValid l = l
+abbrev pub releasedCountIn : Released → List ℕ → List ℕ
+releasedCountIn (All n) l = toldIn n l
+releasedCountIn Short l = l
+releasedCountIn NotValid l = l
 
 -- what the answer leaves, against the first k of the hashes gs
 abbrev pub Left : List ℕ → ℕ → Stock → Stock → Released → Type 0
 Left gs k m m′ a = ReleasedTo a gs k (m .hashes) (m .numbers) (m .deps) (m .count) (m .thashes) (m .tnumbers) (m .tdeps) (m′ .hashes) (m′ .numbers) (m′ .deps) (m′ .count) (m′ .thashes) (m′ .tnumbers) (m′ .tdeps)
-    × (m′ .told ≡ countIn a (m .told))
+    × (m′ .told ≡ releasedCountIn a (m .told))
 
 -- the answer to a valid queue
 abbrev pub answerOf : List ℕ → ℕ → Stock → Released
@@ -45,11 +45,11 @@ answerOf gs k m = releasedAs (readyOf gs k (m .hashes) (m .numbers) (m .deps) (m
 
 -- a release against a table of hashes of which the first k are known: 1 exactly where the queue is not valid or the table has fewer
 abbrev pub Freed : List ℕ → ℕ → Stock → ℕ → Stock → Type 0
-Freed gs k m r m′ = Numbered numberOf (Lent gs k (m .hashes) (m .numbers) (m .deps) (m .count)) (answerOf gs k m) NotValid (Left gs k m m′) r
+Freed gs k m r m′ = Numbered releasedNumber (Lent gs k (m .hashes) (m .numbers) (m .deps) (m .count)) (answerOf gs k m) NotValid (Left gs k m m′) r
 
 -- a release against a graph: 1 exactly where the graph or the queue is not valid; known are the graph's changes
 abbrev pub FreedBy : Stock → ℕ → Stock → Tables → Type 0
-FreedBy m r m′ t = Numbered numberOf (Valid t × QueueValid (m .hashes) (m .numbers) (m .deps) (m .count)) (answerOf (t .hashes) (changes t) m) NotValid (Left (t .hashes) (changes t) m m′) r
+FreedBy m r m′ t = Numbered releasedNumber (Valid t × StoreValid (m .hashes) (m .numbers) (m .deps) (m .count)) (answerOf (t .hashes) (changes t) m) NotValid (Left (t .hashes) (changes t) m m′) r
 
 -- ---- laws
 

@@ -5,14 +5,14 @@ ghost use mathlib.Core.Path.{_≡_};
 ghost use Rattle.paper.specs.Numbers.{number, not-valid};
 ghost use Rattle.tables.specs.Tables.{tables};
 ghost use Rattle.edges.specs.Edges.{lent};
-ghost use Rattle.edges.specs.Told.{Asked};
-ghost use Rattle.release.specs.Release.{numberOf};
-ghost use Rattle.hub_release.specs.Operations.{stock, countIn, Freed, FreedBy};
+ghost use Rattle.edges.specs.Told.{AskedOverFirst};
+ghost use Rattle.release.specs.Release.{releasedNumber};
+ghost use Rattle.hub_release.specs.Operations.{stock, releasedCountIn, Freed, FreedBy};
 use edges::Edge;
 use release::Released;
 
 fn released(a: Released) -> u32
-    ensures { λ r. ⌜ r ≡ numberOf a ⌝ }
+    ensures { λ r. ⌜ r ≡ releasedNumber a ⌝ }
 {
     match a {
         Released::All(_) => 0,
@@ -23,7 +23,7 @@ fn released(a: Released) -> u32
 
 // Tells how many.
 fn tell_count(a: Released, told: &mut [u64])
-    ensures { λ r. ⌜ now (told .exit) ≡ countIn a (now (told .entry)) ⌝ }
+    ensures { λ r. ⌜ now (told .exit) ≡ releasedCountIn a (now (told .entry)) ⌝ }
 {
     match a {
         Released::All(n) => lent_place::tell(told, n as u64),
@@ -117,7 +117,7 @@ fn release_told(
     tdeps: &mut [u8],
     told: &mut [u64],
 ) -> u32
-    ensures { λ r. ⌜ Asked (FreedBy (stock (now (qhashes .entry)) (now (qnumbers .entry)) (now (qdeps .entry)) (now (qcount .entry)) (now (thashes .entry)) (now (tnumbers .entry)) (now (tdeps .entry)) (now (told .entry))) r (stock (now (qhashes .exit)) (now (qnumbers .exit)) (now (qdeps .exit)) (now (qcount .exit)) (now (thashes .exit)) (now (tnumbers .exit)) (now (tdeps .exit)) (now (told .exit)))) ((r ≡ number not-valid) × (stock (now (qhashes .exit)) (now (qnumbers .exit)) (now (qdeps .exit)) (now (qcount .exit)) (now (thashes .exit)) (now (tnumbers .exit)) (now (tdeps .exit)) (now (told .exit)) ≡ stock (now (qhashes .entry)) (now (qnumbers .entry)) (now (qdeps .entry)) (now (qcount .entry)) (now (thashes .entry)) (now (tnumbers .entry)) (now (tdeps .entry)) (now (told .entry)))) e (tables (now (hashes .entry)) (now (nodes .entry)) (now (targets .entry)) (now (nexts .entry)) (now (clocks .entry)) (now (counts .entry))) ⌝ }
+    ensures { λ r. ⌜ AskedOverFirst (FreedBy (stock (now (qhashes .entry)) (now (qnumbers .entry)) (now (qdeps .entry)) (now (qcount .entry)) (now (thashes .entry)) (now (tnumbers .entry)) (now (tdeps .entry)) (now (told .entry))) r (stock (now (qhashes .exit)) (now (qnumbers .exit)) (now (qdeps .exit)) (now (qcount .exit)) (now (thashes .exit)) (now (tnumbers .exit)) (now (tdeps .exit)) (now (told .exit)))) ((r ≡ number not-valid) × (stock (now (qhashes .exit)) (now (qnumbers .exit)) (now (qdeps .exit)) (now (qcount .exit)) (now (thashes .exit)) (now (tnumbers .exit)) (now (tdeps .exit)) (now (told .exit)) ≡ stock (now (qhashes .entry)) (now (qnumbers .entry)) (now (qdeps .entry)) (now (qcount .entry)) (now (thashes .entry)) (now (tnumbers .entry)) (now (tdeps .entry)) (now (told .entry)))) e (tables (now (hashes .entry)) (now (nodes .entry)) (now (targets .entry)) (now (nexts .entry)) (now (clocks .entry)) (now (counts .entry))) ⌝ }
 {
     if targets.len() < e {
         return 1;

@@ -5,7 +5,7 @@ use mathlib.Core.List.{List}
 use Prim.Native.Nat.{ℕ, zero, suc}
 use lib.ListN.{length}
 use Rattle.tables.specs.Tables.{Tables, graph, actors}
-use Rattle.answer_buffer.specs.Answers.{listed, filled}
+use Rattle.answer_buffer.specs.Answers.{listAnswer, filled}
 use Rattle.lookups.specs.Lookups.{actor-list}
 use Rattle.lookups.specs.declared.Which.{Which}
 use Rattle.lookups.specs.declared.Which.the-variants.{Used, Unused, All}
@@ -41,4 +41,4 @@ NumActors told r told′ t = Tells gives (λ t. actors t) told r told′ t
 
 -- asking for the actors, which are listed by the number, answers r and leaves out′ and told′
 abbrev pub ActorIds : ℕ → List ℕ → List ℕ → ℕ → List ℕ → List ℕ → Tables → Type 0
-ActorIds which out told r out′ told′ t = Asks ofListed (λ t. listed (actor-list t (whichOf which)) (length out)) (λ t. filled (actor-list t (whichOf which)) out) out told r out′ told′ t
+ActorIds which out told r out′ told′ t = Asks ofListed (λ t. listAnswer (actor-list t (whichOf which)) (length out)) (λ t. filled (actor-list t (whichOf which)) out) out told r out′ told′ t

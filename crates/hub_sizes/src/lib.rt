@@ -8,10 +8,10 @@ ghost use mathlib.Core.List.{[]};
 ghost use Rattle.tables.specs.Tables.{tables};
 ghost use Rattle.tables.specs.Valid.{Valid};
 ghost use lib.ListN.{length};
-ghost use Rattle.answer_buffer.specs.Answers.{listed, filled};
+ghost use Rattle.answer_buffer.specs.Answers.{listAnswer, filled};
 ghost use Rattle.lookups.specs.Lookups.{actor-list};
 ghost use Rattle.edges.specs.Edges.{lent};
-ghost use Rattle.edges.specs.Told.{Asked};
+ghost use Rattle.edges.specs.Told.{AskedOverFirst};
 ghost use Rattle.hub_answer.specs.Asks.{Untouched};
 ghost use Rattle.hub_sizes.specs.Operations.{whichOf, Len, NumActors, ActorIds};
 use answer_buffer::Listed;
@@ -47,7 +47,7 @@ fn len_told(
     counts: &[u32],
     told: &mut [u64],
 ) -> u32
-    ensures { λ r. ⌜ Asked (Len (now (told .entry)) r (now (told .exit))) (Untouched [] (now (told .entry)) r [] (now (told .exit))) e (tables (now (hashes .entry)) (now (nodes .entry)) (now (targets .entry)) (now (nexts .entry)) (now (clocks .entry)) (now (counts .entry))) ⌝ }
+    ensures { λ r. ⌜ AskedOverFirst (Len (now (told .entry)) r (now (told .exit))) (Untouched [] (now (told .entry)) r [] (now (told .exit))) e (tables (now (hashes .entry)) (now (nodes .entry)) (now (targets .entry)) (now (nexts .entry)) (now (clocks .entry)) (now (counts .entry))) ⌝ }
 {
     if targets.len() < e {
         return 1;
@@ -114,7 +114,7 @@ fn num_actors_told(
     counts: &[u32],
     told: &mut [u64],
 ) -> u32
-    ensures { λ r. ⌜ Asked (NumActors (now (told .entry)) r (now (told .exit))) (Untouched [] (now (told .entry)) r [] (now (told .exit))) e (tables (now (hashes .entry)) (now (nodes .entry)) (now (targets .entry)) (now (nexts .entry)) (now (clocks .entry)) (now (counts .entry))) ⌝ }
+    ensures { λ r. ⌜ AskedOverFirst (NumActors (now (told .entry)) r (now (told .exit))) (Untouched [] (now (told .entry)) r [] (now (told .exit))) e (tables (now (hashes .entry)) (now (nodes .entry)) (now (targets .entry)) (now (nexts .entry)) (now (clocks .entry)) (now (counts .entry))) ⌝ }
 {
     if targets.len() < e {
         return 1;
@@ -177,7 +177,7 @@ fn actor_ids_by(
     out: &mut [u32],
 ) -> Listed
     requires { ⌜ Valid (tables (now hashes) (now nodes) (now targets) (now nexts) (now clocks) (now counts)) ⌝ }
-    ensures { λ r. ⌜ r ≡ listed (actor-list (tables (now (hashes .entry)) (now (nodes .entry)) (now (targets .entry)) (now (nexts .entry)) (now (clocks .entry)) (now (counts .entry))) (whichOf which)) (length (now (out .entry))) ⌝ }
+    ensures { λ r. ⌜ r ≡ listAnswer (actor-list (tables (now (hashes .entry)) (now (nodes .entry)) (now (targets .entry)) (now (nexts .entry)) (now (clocks .entry)) (now (counts .entry))) (whichOf which)) (length (now (out .entry))) ⌝ }
     ensures { λ _. ⌜ now (out .exit) ≡ filled (actor-list (tables (now (hashes .entry)) (now (nodes .entry)) (now (targets .entry)) (now (nexts .entry)) (now (clocks .entry)) (now (counts .entry))) (whichOf which)) (now (out .entry)) ⌝ }
 {
     let w = which_of(which);
@@ -217,7 +217,7 @@ fn actor_ids_told(
     out: &mut [u32],
     told: &mut [u64],
 ) -> u32
-    ensures { λ r. ⌜ Asked (ActorIds which (now (out .entry)) (now (told .entry)) r (now (out .exit)) (now (told .exit))) (Untouched (now (out .entry)) (now (told .entry)) r (now (out .exit)) (now (told .exit))) e (tables (now (hashes .entry)) (now (nodes .entry)) (now (targets .entry)) (now (nexts .entry)) (now (clocks .entry)) (now (counts .entry))) ⌝ }
+    ensures { λ r. ⌜ AskedOverFirst (ActorIds which (now (out .entry)) (now (told .entry)) r (now (out .exit)) (now (told .exit))) (Untouched (now (out .entry)) (now (told .entry)) r (now (out .exit)) (now (told .exit))) e (tables (now (hashes .entry)) (now (nodes .entry)) (now (targets .entry)) (now (nexts .entry)) (now (clocks .entry)) (now (counts .entry))) ⌝ }
 {
     if targets.len() < e {
         return 1;

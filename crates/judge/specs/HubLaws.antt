@@ -25,7 +25,7 @@ use Rattle.tables.specs.LaidLaws.NodeLaid.{a-list}
 use Rattle.tables.specs.DepsLaws.{node-along, links-end}
 use Rattle.tables.specs.Node.{foundAs}
 use Rattle.tables.specs.NodeLaws.{find-node}
-use Rattle.judge.specs.Judge.{depCount, misshapen, judged, verdict}
+use Rattle.judge.specs.Judge.{depsGiven, misshapen, tablesJudged, verdict}
 use Rattle.judge.specs.Hub.{hub}
 
 -- ---- the first unknown one of a list
@@ -88,8 +88,8 @@ edges-sum t s = laid-sum (t .nodes) (t .targets) (t .nexts) (s .laid) (s .counts
 
 -- ---- the judgement
 
-pub judged-agrees : (t : Tables) (x : Change) → Sound t → verdict (judged t x) ≡ paper-judged (hub t) x
-unfolding judged paper-judged seq-for-actor foundAs
+pub judged-agrees : (t : Tables) (x : Change) → Sound t → verdict (tablesJudged t x) ≡ paper-judged (hub t) x
+unfolding tablesJudged paper-judged seq-for-actor foundAs
 judged-agrees t x s =
     rw (find-node t (x .hash), unknown-first t (x .deps), hashes-count (x .deps), edges-sum t s)
     (by-bool (misshapen x) (λ y. rw y)
@@ -110,9 +110,9 @@ judged-agrees t x s =
     (by-bool (ltb 4294967295 (x .max-op) || ltb (x .max-op) (x .ops)) (λ y. rw y)
     (λ n.
     rw n
-    (by-bool (ltb 32 (depCount x)) (λ y. rw y)
+    (by-bool (ltb 32 (depsGiven x)) (λ y. rw y)
     (λ n.
     rw n
     (by-bool (leb (changeRoom t) (changes t)) (λ y. rw y)
-    (λ n. rw n (by-bool (ltb (edgeRoom t) (edges t + depCount x)) (λ y. rw y) (λ n. rw n)))))))))
+    (λ n. rw n (by-bool (ltb (edgeRoom t) (edges t + depsGiven x)) (λ y. rw y) (λ n. rw n)))))))))
     (λ n. rw n))))))))))

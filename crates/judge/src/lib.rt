@@ -4,7 +4,7 @@ ghost use Prim.Native.Nat.{_*_, _≤_};
 ghost use lib.ListN.{length};
 ghost use Rattle.tables.specs.Tables.{tables};
 ghost use Rattle.tables.specs.Valid.{Valid, countOf};
-ghost use Rattle.judge.specs.Judge.{change, judged, numberOf};
+ghost use Rattle.judge.specs.Judge.{change, tablesJudged, judgedNumber};
 use hash::Found;
 use hash::Missing;
 
@@ -24,7 +24,7 @@ pub enum Judged {
 
 // The paper's number.
 pub fn number(j: Judged) -> u32
-    ensures { λ r. ⌜ r ≡ numberOf j ⌝ }
+    ensures { λ r. ⌜ r ≡ judgedNumber j ⌝ }
 {
     match j {
         Judged::Done => 0,
@@ -72,7 +72,7 @@ pub fn judge(
     deps: &[u8],
 ) -> Judged
     requires { ⌜ Valid (tables (now hashes) (now nodes) (now targets) (now nexts) (now clocks) (now counts)) ⌝ }
-    ensures { λ r. ⌜ r ≡ judged (tables (now (hashes .entry)) (now (nodes .entry)) (now (targets .entry)) (now (nexts .entry)) (now (clocks .entry)) (now (counts .entry))) (change (now (hash .entry)) actor seq max ops (now (deps .entry))) ⌝ }
+    ensures { λ r. ⌜ r ≡ tablesJudged (tables (now (hashes .entry)) (now (nodes .entry)) (now (targets .entry)) (now (nexts .entry)) (now (clocks .entry)) (now (counts .entry))) (change (now (hash .entry)) actor seq max ops (now (deps .entry))) ⌝ }
 {
     if hash.len() != 32 {
         return Judged::Malformed;

@@ -9,7 +9,7 @@ use borrow.Author.Tests.{eq-eqb, ne-eqb}
 use Rattle.paper.specs.Lists.{each-below}
 use Rattle.paper.proofs.Each.{length-each, getD-each}
 use Rattle.tables.specs.Tables.{Tables, graph, actors}
-use Rattle.answer_buffer.specs.Answers.{listed, filled}
+use Rattle.answer_buffer.specs.Answers.{listAnswer, filled}
 use Rattle.answer_buffer.specs.AnswerLaws.{filled-done}
 use Rattle.answer_buffer.specs.declared.Listed.the-variants.{Malformed}
 use Rattle.list_clock.specs.Clocks.{clock-entries, Entries, whole-clock, clock-told, clock-filled}
@@ -23,7 +23,7 @@ module _ (t : Tables) (bytes : List ℕ) where
   unfolding clock-filled
   unfilled-bad n out = rw (ne-eqb (length bytes % 32) 0 n)
 
-  pub clock-good : length bytes % 32 ≡ 0 → (room : ℕ) → clock-told t bytes room ≡ listed (whole-clock t bytes) room
+  pub clock-good : length bytes % 32 ≡ 0 → (room : ℕ) → clock-told t bytes room ≡ listAnswer (whole-clock t bytes) room
   unfolding clock-told
   clock-good e room = rw (eq-eqb (length bytes % 32) 0 e)
 

@@ -8,7 +8,7 @@ use lib.ListN.{length, getD}
 use Rattle.paper.specs.Lists.{each-below, hashes-of}
 use Rattle.paper.specs.Graph.{Graph, nodes, clock}
 use Rattle.tables.specs.Tables.{Tables, graph, actors}
-use Rattle.answer_buffer.specs.Answers.{whole-list, listed, filled}
+use Rattle.answer_buffer.specs.Answers.{whole-list, listAnswer, filled}
 use Rattle.answer_buffer.specs.declared.Listed.{Listed}
 use Rattle.answer_buffer.specs.declared.Listed.the-variants.{Malformed}
 
@@ -21,7 +21,7 @@ abbrev pub whole-clock : Tables → List ℕ → List ℕ
 whole-clock t bytes = each-below (clock-entries (graph t) bytes) (actors t)
 
 unfoldable pub clock-told : Tables → List ℕ → ℕ → Listed
-clock-told t bytes room = cond (whole-list bytes) (listed (whole-clock t bytes) room) Malformed
+clock-told t bytes room = cond (whole-list bytes) (listAnswer (whole-clock t bytes) room) Malformed
 
 unfoldable pub clock-filled : Tables → List ℕ → List ℕ → List ℕ
 clock-filled t bytes out = cond (whole-list bytes) (filled (whole-clock t bytes) out) out

@@ -11,7 +11,7 @@ use lib.ListN.{length, take, drop, getD, set, length-set, replicate, length-repl
 use lib.Seq.{getD-set-same, getD-set-other, take-at}
 use borrow.Author.Tests.{eqb-true, eqb-false, eq-eqb, lt-ltb, ltb-true}
 use Rattle.paper.specs.Lists.{mem, pick, some-below, hashAt, hashes-from, hashes-of, each-below}
-use Rattle.paper.specs.Graph.{Graph, node, nodes, known, hist, clock, Valid}
+use Rattle.paper.specs.Graph.{Graph, node, nodes, known, hist, clock, ValidGraph}
 use Rattle.paper.proofs.Bools.{by-bool, to-false, same-bool, and-both, and-fst, and-snd, mem-append, mem-nil, mem-cons, mem-pick, pick-mem, mem-getD}
 use Rattle.paper.proofs.History.{hist-start}
 use Rattle.paper.proofs.Clock.{hist-mono}
@@ -131,7 +131,7 @@ marked-known g bytes n m v j =
 
 -- ---- unknown ones count for nothing
 
-module _ (g : Graph) (v : Valid g) (s : List ℕ) where
+module _ (g : Graph) (v : ValidGraph g) (s : List ℕ) where
   abbrev knowns : List ℕ
   knowns = pick (known g s) (g .size)
 
@@ -166,7 +166,7 @@ module _ (p : ℕ → Bool) (n : ℕ) {out₀ out : List ℕ} {c : ℕ} (h : Hol
       let q : i < length (pick p n) = subst (λ (x : List ℕ). i < length x) e l in
       rw e (pick-mem p n (getD (pick p n) i 0) (mem-getD (pick p n) i q) .0)
 
-pub starts-clock : (g : Graph) (v : Valid g) (bytes : List ℕ) {out₀ out : List ℕ} {c : ℕ} → Holds (pick (known g (nodes g (hashes-of bytes))) (g .size)) out₀ out c
+pub starts-clock : (g : Graph) (v : ValidGraph g) (bytes : List ℕ) {out₀ out : List ℕ} {c : ℕ} → Holds (pick (known g (nodes g (hashes-of bytes))) (g .size)) out₀ out c
     → (w : ℕ) → each-below (clock g (take (c - 0) out)) w ≡ each-below (clock-entries g bytes) w
 unfolding clock-entries
 starts-clock g v bytes {out₀} {out} {c} h w =
@@ -179,7 +179,7 @@ empty-nodes : (g : Graph) (bytes : List ℕ) → length bytes ≡ 0 → nodes g 
 unfolding nodes hashes-of hashes-from
 empty-nodes g bytes e = rw e
 
-pub empty-clock : (g : Graph) (v : Valid g) (bytes : List ℕ) → length bytes ≡ 0 → (n : ℕ) → replicate n 0 ≡ each-below (clock-entries g bytes) n
+pub empty-clock : (g : Graph) (v : ValidGraph g) (bytes : List ℕ) → length bytes ≡ 0 → (n : ℕ) → replicate n 0 ≡ each-below (clock-entries g bytes) n
 unfolding clock-entries
 empty-clock g v bytes e n =
     rw (empty-nodes g bytes e)

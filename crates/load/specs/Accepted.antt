@@ -15,7 +15,7 @@ use Rattle.paper.specs.Numbers.{done}
 use Rattle.paper.specs.Graph.{Graph, node, nodes, heads}
 use Rattle.paper.specs.ProofWords.{Extends}
 use Rattle.paper.specs.Adding.{Hub, Change, Verdict, plain, judged, accepts, seq-for-actor, edges-used, first-unknown, put, grown, added}
-use Rattle.paper.specs.Loading.{Columns, listed, deps-before, deps-of, column-graph, same-hashes, hashes-at, change-of}
+use Rattle.paper.specs.Loading.{Columns, listed-changes, deps-before, deps-of, column-graph, same-hashes, hashes-at, change-of}
 use Rattle.paper.proofs.Bools.{below-suc, or-left, or-right, tally-ext}
 use Rattle.paper.proofs.First.{first-none, first-is}
 use Rattle.paper.proofs.Scans.{sum-next, sum-more}
@@ -65,7 +65,7 @@ sum-le f g (suc m) h = let ih = sum-le f g m (λ k l. h k (omega arith)) in let 
 
 -- ---- change k of agreeing columns, on a graph that has the changes before it
 
-module _ (c : Columns) (a : Agreed c) (g : Graph) (x : Extends g (column-graph c)) (l : g .size < listed c) where
+module _ (c : Columns) (a : Agreed c) (g : Graph) (x : Extends g (column-graph c)) (l : g .size < listed-changes c) where
   inside : (j : ℕ) → mem j (deps-of c (g .size)) ≡ true → 32 * j + 32 ≤ length (c .hashes)
   inside j m = let b = a .down (g .size) j l m in omega arith
 
@@ -76,7 +76,7 @@ module _ (c : Columns) (a : Agreed c) (g : Graph) (x : Extends g (column-graph c
   hash-is : (j : ℕ) → j < g .size → g .hash j ≡ hashAt (c .hashes) j
   hash-is j b = sym (x .hashes j b)
 
-  apart : (j k : ℕ) → j < k → k < listed c → j < g .size → sameList (g .hash j) (hashAt (c .hashes) k) ≡ false
+  apart : (j k : ℕ) → j < k → k < listed-changes c → j < g .size → sameList (g .hash j) (hashAt (c .hashes) k) ≡ false
   apart j k b m n = ap (λ (h : List ℕ). sameList h (hashAt (c .hashes) k)) (hash-is j n) ∙ a .fresh k j m b
 
   -- it is new, and each of its dependencies is known
@@ -119,12 +119,12 @@ module _ (c : Columns) (a : Agreed c) (g : Graph) (x : Extends g (column-graph c
       (λ j b. ap (λ (n : ℕ). eqb n (getD (c .actors) (g .size) 0)) (x .actors j b)))
 
   -- the edges so far, with its own
-  edges-fit : edges-used g + length (deps-of c (g .size)) ≤ deps-before c (listed c)
+  edges-fit : edges-used g + length (deps-of c (g .size)) ≤ deps-before c (listed-changes c)
   unfolding edges-used deps-before
   edges-fit =
       let s = sum-le (λ k. length (g .deps k)) (λ k. getD (c .dep-counts) k 0) (g .size) (λ k b. let e = ap length (x .depss k b) in let m = deps-most k in omega arith) in
       let n = sum-next (λ j. getD (c .dep-counts) j 0) (g .size) in
-      let m = sum-more (λ j. getD (c .dep-counts) j 0) (g .size + 1) (listed c) (omega arith) in
+      let m = sum-more (λ j. getD (c .dep-counts) j 0) (g .size + 1) (listed-changes c) (omega arith) in
       let d = deps-most (g .size) in
       omega arith
 
@@ -135,9 +135,9 @@ column {ℓ} : {A : Type ℓ} (n : ℕ) (v : A) (f f′ : ℕ → A) → ((k : �
 column n v f f′ old this k b =
     below-suc (λ (j : ℕ). f′ j ≡ put n v f j) n k b (λ h. rw (ne-eqb k n (λ y. omega arith)) (old k h)) (rw (eq-eqb n n refl) this)
 
-module _ (c : Columns) (a : Agreed c) (u : Hub) (x : Extends (u .graph) (column-graph c)) (l : u .graph .size < listed c) where
+module _ (c : Columns) (a : Agreed c) (u : Hub) (x : Extends (u .graph) (column-graph c)) (l : u .graph .size < listed-changes c) where
   -- it is accepted
-  pub accepted : u .actors ≡ c .actor-count → listed c ≤ u .change-room → deps-before c (listed c) ≤ u .edge-room → judged u (change-of c (u .graph .size)) ≡ plain done
+  pub accepted : u .actors ≡ c .actor-count → listed-changes c ≤ u .change-room → deps-before c (listed-changes c) ≤ u .edge-room → judged u (change-of c (u .graph .size)) ≡ plain done
   unfolding judged
   accepted w n e =
       let g = u .graph in

@@ -9,7 +9,7 @@ use lib.Dec.{eqb, ltb}
 use lib.ListN.{length, set}
 use borrow.Author.Tests.{eq-eqb, ne-eqb, eqb-true, ltb-false}
 use Rattle.paper.specs.Numbers.{number}
-use Rattle.paper.specs.Loading.{Columns, listed, deps-before, agree, judged-load, changes-of}
+use Rattle.paper.specs.Loading.{Columns, listed-changes, deps-before, agree, judged-load, changes-of}
 use Rattle.paper.proofs.Bools.{by-bool}
 use Rattle.paper.proofs.Loading.{Agreed}
 use Rattle.tables.specs.Tables.{Tables, tables, actorRoom}
@@ -29,8 +29,8 @@ pub record Taken (n e a : ℕ) (c : Columns) : Type 0 where
   pub heads-whole : length (c .heads) % 32 ≡ 0
   pub actors-fit : c .actor-count ≤ a
   pub agreeing : agree c ≡ true
-  pub nodes-fit : listed c ≤ n
-  pub edges-fit : deps-before c (listed c) ≤ e
+  pub nodes-fit : listed-changes c ≤ n
+  pub edges-fit : deps-before c (listed-changes c) ≤ e
 
 pub taken : (n e a : ℕ) (c : Columns) → number (judged-load n e a c) ≡ 0 → Taken n e a c
 unfolding judged-load
@@ -44,10 +44,10 @@ taken n e a c h =
     (λ r.
     by-bool (agree c)
     (λ g.
-    by-bool (ltb n (listed c))
+    by-bool (ltb n (listed-changes c))
     (λ t. let z : _≡_ {A = ℕ} 9 0 = rw (w, v, r, g, t) at h in absurd (omega arith))
     (λ m.
-    by-bool (ltb e (deps-before c (listed c)))
+    by-bool (ltb e (deps-before c (listed-changes c)))
     (λ t. let z : _≡_ {A = ℕ} 10 0 = rw (w, v, r, g, m, t) at h in absurd (omega arith))
     (λ o.
     record {
@@ -55,8 +55,8 @@ taken n e a c h =
       heads-whole = eqb-true (length (c .heads) % 32) 0 v;
       actors-fit = ltb-false a (c .actor-count) r;
       agreeing = g;
-      nodes-fit = ltb-false n (listed c) m;
-      edges-fit = ltb-false e (deps-before c (listed c)) o;
+      nodes-fit = ltb-false n (listed-changes c) m;
+      edges-fit = ltb-false e (deps-before c (listed-changes c)) o;
     })))
     (λ f. let z : _≡_ {A = ℕ} 18 0 = rw (w, v, r, f) at h in absurd (omega arith))))
     (λ f. let z : _≡_ {A = ℕ} 2 0 = rw (w, f) at h in absurd (omega arith)))

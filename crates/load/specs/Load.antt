@@ -8,7 +8,7 @@ use lib.Dec.{eqb}
 use lib.ListN.{length, getD}
 use Rattle.paper.specs.Lists.{mem}
 use Rattle.paper.specs.Numbers.{Outcome, number}
-use Rattle.paper.specs.Loading.{Columns, listed, deps-before, deps-of, changes-of, judged-load}
+use Rattle.paper.specs.Loading.{Columns, listed-changes, deps-before, deps-of, changes-of, judged-load}
 use Rattle.tables.specs.Tables.{Tables, changeRoom, edgeRoom, actorRoom}
 use Rattle.graph.specs.Life.{adds}
 use Rattle.actors.specs.Actors.{opened}
@@ -27,11 +27,11 @@ pub record Inside (ids deps : List ℕ) : Type 0 where
 
 -- what filling reads lies in the columns
 pub record Fillable (c : Columns) : Type 0 where
-  pub actors-long : length (c .actors) ≡ listed c
-  pub seqs-long : length (c .seqs) ≡ listed c
-  pub max-ops-long : length (c .max-ops) ≡ listed c
-  pub op-counts-long : length (c .op-counts) ≡ listed c
-  pub dep-counts-long : length (c .dep-counts) ≡ listed c
-  pub few : (k : ℕ) → k < listed c → getD (c .dep-counts) k 0 ≤ 32
-  pub enough : deps-before c (listed c) ≤ length (c .dep-values)
-  pub down : (k j : ℕ) → k < listed c → mem j (deps-of c k) ≡ true → j < k
+  pub actors-long : length (c .actors) ≡ listed-changes c
+  pub seqs-long : length (c .seqs) ≡ listed-changes c
+  pub max-ops-long : length (c .max-ops) ≡ listed-changes c
+  pub op-counts-long : length (c .op-counts) ≡ listed-changes c
+  pub dep-counts-long : length (c .dep-counts) ≡ listed-changes c
+  pub few : (k : ℕ) → k < listed-changes c → getD (c .dep-counts) k 0 ≤ 32
+  pub enough : deps-before c (listed-changes c) ≤ length (c .dep-values)
+  pub down : (k j : ℕ) → k < listed-changes c → mem j (deps-of c k) ≡ true → j < k

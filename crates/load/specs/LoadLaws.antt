@@ -13,14 +13,14 @@ use lib.Seq.{paste, take-suc, take-at, take-all, drop-at, drop-drop, take-length
 use borrow.Author.Tests.{eq-eqb}
 use Rattle.paper.specs.Lists.{mem, hashAt, sum-below, each-below}
 use Rattle.paper.specs.Adding.{Change}
-use Rattle.paper.specs.Loading.{Columns, listed, deps-before, deps-of, column-graph, hashes-at, change-of, changes-of}
+use Rattle.paper.specs.Loading.{Columns, listed-changes, deps-before, deps-of, column-graph, hashes-at, change-of, changes-of}
 use Rattle.paper.proofs.Bools.{or-left, or-right, mem-getD, mem-append}
 use Rattle.paper.proofs.Scans.{sum-next, sum-more}
 use Rattle.paper.proofs.Loading.{Agreed}
 use Rattle.hash.specs.HashLaws.{hash-length}
 use Rattle.tables.specs.Tables.{Tables}
 use Rattle.tables.specs.Valid.{Valid}
-use Rattle.graph.specs.Place.{added}
+use Rattle.graph.specs.Place.{addedTables}
 use Rattle.graph.specs.Life.{adds, adds-valid}
 use Rattle.load.specs.Load.{Inside, Fillable}
 
@@ -105,13 +105,13 @@ put-part ids deps rest ins =
 
 -- ---- tables that the first k changes are added to
 
-pub adds-last : (t : Tables) (xs : List Change) (x : Change) → adds t (xs ++ (x ∷ [])) ≡ added (adds t xs) x
+pub adds-last : (t : Tables) (xs : List Change) (x : Change) → adds t (xs ++ (x ∷ [])) ≡ addedTables (adds t xs) x
 unfolding adds
 adds-last t [] x = refl
-adds-last t (y ∷ xs) x = adds-last (added t y) xs x
+adds-last t (y ∷ xs) x = adds-last (addedTables t y) xs x
 
 pub record Filled (c : Columns) (t₀ : Tables) (at k : ℕ) (t : Tables) : Type 0 where
-  pub low : k ≤ listed c
+  pub low : k ≤ listed-changes c
   pub sum : at ≡ deps-before c k
   pub same : t ≡ adds t₀ (each-below (change-of c) k)
 
@@ -122,7 +122,7 @@ filled-start c t = record { low = omega arith; sum = refl; same = refl }
 pub filled-valid : {c : Columns} {t₀ : Tables} {at k : ℕ} {t : Tables} → Valid t₀ → Filled c t₀ at k t → Valid t
 filled-valid {c} {t₀} {at} {k} v f = subst Valid (sym (f .same)) (adds-valid t₀ (each-below (change-of c) k) v)
 
-module _ (c : Columns) (w : Fillable c) {t₀ : Tables} {at k : ℕ} {t : Tables} (f : Filled c t₀ at k t) (l : k < listed c) where
+module _ (c : Columns) (w : Fillable c) {t₀ : Tables} {at k : ℕ} {t : Tables} (f : Filled c t₀ at k t) (l : k < listed-changes c) where
   -- the part of the values that is lent for change k
   pub lent : take (at + getD (c .dep-counts) k 0 - at) (drop at (c .dep-values)) ≡ deps-of c k
   lent =
@@ -135,7 +135,7 @@ module _ (c : Columns) (w : Fillable c) {t₀ : Tables} {at k : ℕ} {t : Tables
   lent-fits =
       let s = f .sum in
       let t = sum-next (λ j. getD (c .dep-counts) j 0) k in
-      let u = sum-more (λ j. getD (c .dep-counts) j 0) (k + 1) (listed c) (omega arith) in
+      let u = sum-more (λ j. getD (c .dep-counts) j 0) (k + 1) (listed-changes c) (omega arith) in
       let e = w .enough in
       omega arith
 
@@ -146,7 +146,7 @@ module _ (c : Columns) (w : Fillable c) {t₀ : Tables} {at k : ℕ} {t : Tables
   lent-inside = record { each = λ j m. let b = w .down k j l (ap (mem j) (sym lent) ∙ m) in omega arith }
 
   pub filled-next : {t′ : Tables} {ds : List ℕ} → ds ≡ take (at + getD (c .dep-counts) k 0 - at) (drop at (c .dep-values))
-      → t′ ≡ added t (record { hash = hashAt (c .hashes) k; actor = getD (c .actors) k 0; seq = getD (c .seqs) k 0; max-op = getD (c .max-ops) k 0; ops = getD (c .op-counts) k 0; deps = hashes-at (c .hashes) ds })
+      → t′ ≡ addedTables t (record { hash = hashAt (c .hashes) k; actor = getD (c .actors) k 0; seq = getD (c .seqs) k 0; max-op = getD (c .max-ops) k 0; ops = getD (c .op-counts) k 0; deps = hashes-at (c .hashes) ds })
       → Filled c t₀ (at + getD (c .dep-counts) k 0) (k + 1) t′
   unfolding deps-before each-below
   filled-next {t′} {ds} p q =
@@ -155,12 +155,12 @@ module _ (c : Columns) (w : Fillable c) {t₀ : Tables} {at k : ℕ} {t : Tables
         sum = (let s = f .sum in let n = sum-next (λ j. getD (c .dep-counts) j 0) k in omega arith);
         same =
             q
-            ∙ ap (λ (x : List ℕ). added t (record { hash = hashAt (c .hashes) k; actor = getD (c .actors) k 0; seq = getD (c .seqs) k 0; max-op = getD (c .max-ops) k 0; ops = getD (c .op-counts) k 0; deps = hashes-at (c .hashes) x })) (p ∙ lent)
-            ∙ ap (λ (y : Tables). added y (change-of c k)) (f .same)
+            ∙ ap (λ (x : List ℕ). addedTables t (record { hash = hashAt (c .hashes) k; actor = getD (c .actors) k 0; seq = getD (c .seqs) k 0; max-op = getD (c .max-ops) k 0; ops = getD (c .op-counts) k 0; deps = hashes-at (c .hashes) x })) (p ∙ lent)
+            ∙ ap (λ (y : Tables). addedTables y (change-of c k)) (f .same)
             ∙ sym (adds-last t₀ (each-below (change-of c) k) (change-of c k))
             ∙ ap (λ (n : ℕ). adds t₀ (each-below (change-of c) n)) (sym (add-one k));
       }
 
-pub filled-end : {c : Columns} {t₀ : Tables} {at k : ℕ} {t : Tables} → Filled c t₀ at k t → listed c ≤ k → t ≡ adds t₀ (changes-of c)
+pub filled-end : {c : Columns} {t₀ : Tables} {at k : ℕ} {t : Tables} → Filled c t₀ at k t → listed-changes c ≤ k → t ≡ adds t₀ (changes-of c)
 unfolding changes-of
-filled-end {c} {t₀} {at} {k} f l = let e : k ≡ listed c = (let b = f .low in omega arith) in f .same ∙ ap (λ (n : ℕ). adds t₀ (each-below (change-of c) n)) e
+filled-end {c} {t₀} {at} {k} f l = let e : k ≡ listed-changes c = (let b = f .low in omega arith) in f .same ∙ ap (λ (n : ℕ). adds t₀ (each-below (change-of c) n)) e

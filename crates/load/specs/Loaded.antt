@@ -11,17 +11,17 @@ use Rattle.paper.specs.Numbers.{number, done}
 use Rattle.paper.specs.Graph.{Graph, heads}
 use Rattle.paper.specs.ProofWords.{Extends}
 use Rattle.paper.specs.Adding.{Hub, Change, Verdict, plain, outcome, accepts, grown, added as paper-added, judged as paper-judged}
-use Rattle.paper.specs.Loading.{Columns, listed, deps-before, column-graph, same-hashes, change-of, changes-of}
+use Rattle.paper.specs.Loading.{Columns, listed-changes, deps-before, column-graph, same-hashes, change-of, changes-of}
 use Rattle.paper.proofs.Same.{SameGraph, SameHub, heads-same}
 use Rattle.paper.proofs.Loading.{Agreed, agreed}
 use Rattle.tables.specs.Tables.{Tables, changes, actors, changeRoom, edgeRoom, actorRoom, graph}
 use Rattle.tables.specs.Valid.{Lengths, Valid}
 use Rattle.judge.specs.declared.Judged.the-variants.{Done}
-use Rattle.judge.specs.Judge.{judged, verdict, numberOf}
+use Rattle.judge.specs.Judge.{tablesJudged, verdict, judgedNumber}
 use Rattle.judge.specs.JudgeLaws.{is-done}
 use Rattle.judge.specs.Hub.{hub}
 use Rattle.judge.specs.HubLaws.{judged-agrees}
-use Rattle.graph.specs.Place.{added}
+use Rattle.graph.specs.Place.{addedTables}
 use Rattle.graph.specs.HubGrown.{added-hub}
 use Rattle.graph.specs.Life.{adds, added-valid}
 use Rattle.actors.specs.Actors.{opened}
@@ -43,7 +43,7 @@ pub record Upto (c : Columns) (t s : Tables) (k : ℕ) : Type 0 where
 -- an accepted load, s the tables afterwards
 pub record Loads (t : Tables) (c : Columns) (s : Tables) : Type 0 where
   -- each change is accepted in its turn
-  pub each-done : (k : ℕ) → k < listed c → judged (adds (opened t (c .actor-count)) (each-below (change-of c) k)) (change-of c k) ≡ Done
+  pub each-done : (k : ℕ) → k < listed-changes c → tablesJudged (adds (opened t (c .actor-count)) (each-below (change-of c) k)) (change-of c k) ≡ Done
   -- the graph has exactly the columns' changes, in order
   pub listed-graph : SameGraph (column-graph c) (graph s)
   -- its heads are the stated ones
@@ -89,8 +89,8 @@ module _ (t : Tables) (c : Columns) (l : Lengths t) (w : Taken (changeRoom t) (e
   agreeing = agreed c (w .agreeing)
 
   -- change k is accepted by tables with those before it
-  module _ (s : Tables) (k : ℕ) (u : Upto c t s k) (b : k < listed c) where
-    low : changes s < listed c
+  module _ (s : Tables) (k : ℕ) (u : Upto c t s k) (b : k < listed-changes c) where
+    low : changes s < listed-changes c
     low = let e = u .size in omega arith
 
     paper-done : paper-judged (hub s) (change-of c (changes s)) ≡ plain done
@@ -101,33 +101,33 @@ module _ (t : Tables) (c : Columns) (l : Lengths t) (w : Taken (changeRoom t) (e
         let j = w .edges-fit in
         accepted c agreeing (hub s) (u .extends) low (u .counted) (omega arith) (omega arith)
 
-    done-at : judged s (change-of c (changes s)) ≡ Done
-    done-at = is-done (judged s (change-of c (changes s))) (ap (λ (v : Verdict). number (outcome v)) (judged-agrees s (change-of c (changes s)) (u .valid .sound) ∙ paper-done))
+    done-at : tablesJudged s (change-of c (changes s)) ≡ Done
+    done-at = is-done (tablesJudged s (change-of c (changes s))) (ap (λ (v : Verdict). number (outcome v)) (judged-agrees s (change-of c (changes s)) (u .valid .sound) ∙ paper-done))
 
-    pub done-now : judged s (change-of c k) ≡ Done
-    done-now = ap (λ (i : ℕ). judged s (change-of c i)) (sym (u .size)) ∙ done-at
+    pub done-now : tablesJudged s (change-of c k) ≡ Done
+    done-now = ap (λ (i : ℕ). tablesJudged s (change-of c i)) (sym (u .size)) ∙ done-at
 
-    grown-hub : SameHub (record { graph = grown (graph s) (change-of c (changes s)); actors = actors s; change-room = changeRoom s; edge-room = edgeRoom s }) (hub (added s (change-of c (changes s))))
+    grown-hub : SameHub (record { graph = grown (graph s) (change-of c (changes s)); actors = actors s; change-room = changeRoom s; edge-room = edgeRoom s }) (hub (addedTables s (change-of c (changes s))))
     unfolding paper-added accepts
     grown-hub = rw paper-done at (added-hub s (change-of c (changes s)) (u .valid))
 
-    next-at : Upto c t (added s (change-of c (changes s))) (suc (changes s))
+    next-at : Upto c t (addedTables s (change-of c (changes s))) (suc (changes s))
     unfolding grown
     next-at =
         let h = grown-hub in
         record {
           size = h .graphs .sizes;
-          extends = extends-same (grown (graph s) (change-of c (changes s))) (graph (added s (change-of c (changes s)))) (column-graph c) (h .graphs) (extended c agreeing (hub s) (u .extends) low);
+          extends = extends-same (grown (graph s) (change-of c (changes s))) (graph (addedTables s (change-of c (changes s)))) (column-graph c) (h .graphs) (extended c agreeing (hub s) (u .extends) low);
           counted = h .actors ∙ u .counted;
           change-room = h .change-rooms ∙ u .change-room;
           edge-room = h .edge-rooms ∙ u .edge-room;
           valid = added-valid s (change-of c (changes s)) (u .valid);
         }
 
-    upto-next : Upto c t (added s (change-of c k)) (suc k)
-    upto-next = subst (λ (i : ℕ). Upto c t (added s (change-of c i)) (suc i)) (u .size) next-at
+    upto-next : Upto c t (addedTables s (change-of c k)) (suc k)
+    upto-next = subst (λ (i : ℕ). Upto c t (addedTables s (change-of c i)) (suc i)) (u .size) next-at
 
-  upto : (k : ℕ) → k ≤ listed c → Upto c t (adds (opened t (c .actor-count)) (each-below (change-of c) k)) k
+  upto : (k : ℕ) → k ≤ listed-changes c → Upto c t (adds (opened t (c .actor-count)) (each-below (change-of c) k)) k
   unfolding adds each-below
   upto zero b = record {
     size = refl;
@@ -150,9 +150,9 @@ module _ (t : Tables) (c : Columns) (l : Lengths t) (w : Taken (changeRoom t) (e
       subst (λ (s : Tables). Upto c t s (suc k)) (sym (adds-last (opened t (c .actor-count)) (each-below (change-of c) k) (change-of c k)))
       (upto-next (adds (opened t (c .actor-count)) (each-below (change-of c) k)) k (upto k (omega arith)) b)
 
-  final : Upto c t (adds (opened t (c .actor-count)) (changes-of c)) (listed c)
+  final : Upto c t (adds (opened t (c .actor-count)) (changes-of c)) (listed-changes c)
   unfolding changes-of
-  final = upto (listed c) (omega arith)
+  final = upto (listed-changes c) (omega arith)
 
   filled : Loads t c (adds (opened t (c .actor-count)) (changes-of c))
   filled =

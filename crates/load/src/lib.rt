@@ -10,9 +10,9 @@ ghost use Rattle.paper.specs.Loading.{hashes-at, changes-of};
 ghost use Rattle.tables.specs.Tables.{tables};
 ghost use Rattle.tables.specs.Valid.{Lengths, Valid};
 ghost use Rattle.judge.specs.Judge.{change};
-ghost use Rattle.graph.specs.Place.{added};
+ghost use Rattle.graph.specs.Place.{addedTables};
 ghost use Rattle.graph.specs.Life.{adds};
-ghost use Rattle.columns.specs.Columns.{columns, outcomeOf};
+ghost use Rattle.columns.specs.Columns.{columns, loadingOutcome};
 ghost use Rattle.load.specs.Load.{Inside, Fillable, loading, loaded};
 use columns::Loading;
 
@@ -48,7 +48,7 @@ fn add_listed(
 )
     requires { ⌜ Valid (tables (now hashes) (now nodes) (now targets) (now nexts) (now clocks) (now counts)) ⌝ }
     requires { ⌜ (32 * k + 32 ≤ length (now ids)) × (length (now deps) ≤ 32) × Inside (now ids) (now deps) ⌝ }
-    ensures { λ _. ⌜ tables (now (hashes .exit)) (now (nodes .exit)) (now (targets .exit)) (now (nexts .exit)) (now (clocks .exit)) (now (counts .exit)) ≡ added (tables (now (hashes .entry)) (now (nodes .entry)) (now (targets .entry)) (now (nexts .entry)) (now (clocks .entry)) (now (counts .entry))) (change (hashAt (now (ids .entry)) k) actor seq max ops (hashes-at (now (ids .entry)) (now (deps .entry)))) ⌝ }
+    ensures { λ _. ⌜ tables (now (hashes .exit)) (now (nodes .exit)) (now (targets .exit)) (now (nexts .exit)) (now (clocks .exit)) (now (counts .exit)) ≡ addedTables (tables (now (hashes .entry)) (now (nodes .entry)) (now (targets .entry)) (now (nexts .entry)) (now (clocks .entry)) (now (counts .entry))) (change (hashAt (now (ids .entry)) k) actor seq max ops (hashes-at (now (ids .entry)) (now (deps .entry)))) ⌝ }
 {
     let mut bytes = [0u8; 1024];
     put_hashes(ids, deps, &mut bytes);
@@ -134,7 +134,7 @@ pub fn load(
     count: u64,
 ) -> Loading
     requires { ⌜ Lengths (tables (now hashes) (now nodes) (now targets) (now nexts) (now clocks) (now counts)) ⌝ }
-    ensures { λ r. ⌜ outcomeOf r ≡ loading (tables (now (hashes .entry)) (now (nodes .entry)) (now (targets .entry)) (now (nexts .entry)) (now (clocks .entry)) (now (counts .entry))) (columns (now (ids .entry)) (now (actors .entry)) (now (seqs .entry)) (now (maxes .entry)) (now (ops .entry)) (now (deps .entry)) (now (values .entry)) (now (heads .entry)) count) ⌝ }
+    ensures { λ r. ⌜ loadingOutcome r ≡ loading (tables (now (hashes .entry)) (now (nodes .entry)) (now (targets .entry)) (now (nexts .entry)) (now (clocks .entry)) (now (counts .entry))) (columns (now (ids .entry)) (now (actors .entry)) (now (seqs .entry)) (now (maxes .entry)) (now (ops .entry)) (now (deps .entry)) (now (values .entry)) (now (heads .entry)) count) ⌝ }
     ensures { λ r. ⌜ tables (now (hashes .exit)) (now (nodes .exit)) (now (targets .exit)) (now (nexts .exit)) (now (clocks .exit)) (now (counts .exit)) ≡ loaded (tables (now (hashes .entry)) (now (nodes .entry)) (now (targets .entry)) (now (nexts .entry)) (now (clocks .entry)) (now (counts .entry))) (columns (now (ids .entry)) (now (actors .entry)) (now (seqs .entry)) (now (maxes .entry)) (now (ops .entry)) (now (deps .entry)) (now (values .entry)) (now (heads .entry)) count) ⌝ }
 {
     let w = tables::actor_room(hashes, clocks);

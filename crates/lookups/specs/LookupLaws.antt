@@ -13,14 +13,14 @@ use Rattle.paper.specs.Lists.{pick, tally, first-below}
 use Rattle.paper.proofs.Count.{pick-length}
 use Rattle.tables.specs.Tables.{Tables, graph, actors}
 use Rattle.lookups.specs.declared.Which.{Which}
-use Rattle.paper.specs.Graph.{Graph, node, change-at, max-op-of, Valid}
+use Rattle.paper.specs.Graph.{Graph, node, change-at, max-op-of, ValidGraph}
 use Rattle.paper.specs.Adding.{seq-for-actor}
 use Rattle.paper.proofs.Bools.{by-bool, and-both, and-fst, and-snd, to-false}
 use Rattle.paper.proofs.First.{first-none, first-is, first-says}
 use Rattle.paper.proofs.Chain.{same-node, node-at}
 use Rattle.answer_buffer.specs.declared.Place.the-variants.{At, Malformed, NotFound}
-use Rattle.answer_buffer.specs.declared.Told.the-variants.{Yes, No, Malformed as Untold}
-use Rattle.lookups.specs.Lookups.{looked-up, has, largest, among, actor-list}
+use Rattle.answer_buffer.specs.declared.YesNo.the-variants.{Yes, No, Malformed as Untold}
+use Rattle.lookups.specs.Lookups.{looked-up, has, largest, actorListed, actor-list}
 
 -- ---- a hash
 
@@ -52,7 +52,7 @@ module _ (g : Graph) (h : List ℕ) where
 
 -- ---- an actor's last change: a scan from the end that stands at k has passed none of its changes
 
-module _ (g : Graph) (v : Valid g) (a : ℕ) where
+module _ (g : Graph) (v : ValidGraph g) (a : ℕ) where
   abbrev mine : ℕ → Bool
   mine k = eqb (g .actor k) a
 
@@ -125,7 +125,7 @@ change-says g a q l =
     (eqb-true (g .actor k) a (and-fst (eqb (g .actor k) a) (eqb (g .seq k) q) t), eqb-true (g .seq k) q (and-snd (eqb (g .actor k) a) (eqb (g .seq k) q) t))
 
 -- an actor without a last change has no changes
-pub no-last : (g : Graph) → Valid g → (a : ℕ) → g .size ≤ change-at g a (seq-for-actor g a) → seq-for-actor g a ≡ 0
+pub no-last : (g : Graph) → ValidGraph g → (a : ℕ) → g .size ≤ change-at g a (seq-for-actor g a) → seq-for-actor g a ≡ 0
 unfolding seq-for-actor
 no-last g v a l =
     by-bool (ltb 0 (tally (λ k. eqb (g .actor k) a) (g .size)))
@@ -146,10 +146,10 @@ max-op-none g k l = rw (le-ltb k (g .size) l)
 
 -- ---- the list of actors
 
-pub actors-long : (t : Tables) (w : Which) → length (actor-list t w) ≡ tally (among (graph t) w) (actors t)
+pub actors-long : (t : Tables) (w : Which) → length (actor-list t w) ≡ tally (actorListed (graph t) w) (actors t)
 unfolding actor-list
-actors-long t w = pick-length (among (graph t) w) (actors t)
+actors-long t w = pick-length (actorListed (graph t) w) (actors t)
 
-pub actors-all : (t : Tables) (w : Which) (m : ℕ) → m ≡ actors t → pick (among (graph t) w) m ≡ actor-list t w
+pub actors-all : (t : Tables) (w : Which) (m : ℕ) → m ≡ actors t → pick (actorListed (graph t) w) m ≡ actor-list t w
 unfolding actor-list
-actors-all t w m e = ap (pick (among (graph t) w)) e
+actors-all t w m e = ap (pick (actorListed (graph t) w)) e

@@ -13,15 +13,15 @@ use Rattle.answer_buffer.specs.declared.Place.{Place}
 use Rattle.answer_buffer.specs.declared.Place.the-variants.{At, Malformed, NotFound}
 use Rattle.lookups.specs.declared.Which.{Which}
 use Rattle.lookups.specs.declared.Which.the-variants.{Used, Unused, All}
-use Rattle.answer_buffer.specs.declared.Told.{Told}
-use Rattle.answer_buffer.specs.declared.Told.the-variants.{Yes, No, Malformed as Untold}
+use Rattle.answer_buffer.specs.declared.YesNo.{YesNo}
+use Rattle.answer_buffer.specs.declared.YesNo.the-variants.{Yes, No, Malformed as Untold}
 
 -- the node that has the hash
 unfoldable pub looked-up : Graph → List ℕ → Place
 looked-up g h = cond (one-hash h) (cond (ltb (node g h) (g .size)) (At (node g h)) NotFound) Malformed
 
 -- the hash is known
-unfoldable pub has : Graph → List ℕ → Told
+unfoldable pub has : Graph → List ℕ → YesNo
 has g h = cond (one-hash h) (cond (ltb (node g h) (g .size)) Yes No) Untold
 
 -- the largest of f 0, f 1, .. , m of them, or 0
@@ -30,11 +30,11 @@ largest f zero = 0
 largest f (suc m) = max (largest f m) (f m)
 
 -- the actor is among those that are listed: an actor is used that has changes
-abbrev pub among : Graph → Which → ℕ → Bool
-among g Used a = ltb 0 (seq-for-actor g a)
-among g Unused a = not (ltb 0 (seq-for-actor g a))
-among g All a = true
+abbrev pub actorListed : Graph → Which → ℕ → Bool
+actorListed g Used a = ltb 0 (seq-for-actor g a)
+actorListed g Unused a = not (ltb 0 (seq-for-actor g a))
+actorListed g All a = true
 
 -- those below the count, in ascending order
 unfoldable pub actor-list : Tables → Which → List ℕ
-actor-list t w = pick (among (graph t) w) (actors t)
+actor-list t w = pick (actorListed (graph t) w) (actors t)

@@ -10,12 +10,12 @@ ghost use Rattle.paper.specs.Adding.{seq-for-actor};
 ghost use Rattle.tables.specs.Tables.{tables, graph, actors, actorAt, seqAt, maxOpAt};
 ghost use Rattle.tables.specs.Valid.{Valid};
 ghost use Rattle.tables.specs.Node.{foundAs};
-ghost use Rattle.answer_buffer.specs.Answers.{node-hash, node-hash-filled, listed, filled};
+ghost use Rattle.answer_buffer.specs.Answers.{node-hash, node-hash-filled, listAnswer, filled};
 ghost use Rattle.answer_buffer.specs.declared.Listed.the-variants.{NotFound};
-ghost use Rattle.lookups.specs.Lookups.{looked-up, has, largest, among, actor-list};
+ghost use Rattle.lookups.specs.Lookups.{looked-up, has, largest, actorListed, actor-list};
 use answer_buffer::Listed;
 use answer_buffer::Place;
-use answer_buffer::Told;
+use answer_buffer::YesNo;
 use hash::Found;
 
 // Which actors are listed: those with changes, those without, or all.
@@ -57,18 +57,18 @@ pub fn has_change(
     clocks: &[u32],
     counts: &[u32],
     hash: &[u8],
-) -> Told
+) -> YesNo
     requires { ⌜ Valid (tables (now hashes) (now nodes) (now targets) (now nexts) (now clocks) (now counts)) ⌝ }
     ensures { λ r. ⌜ r ≡ has (graph (tables (now (hashes .entry)) (now (nodes .entry)) (now (targets .entry)) (now (nexts .entry)) (now (clocks .entry)) (now (counts .entry)))) (now (hash .entry)) ⌝ }
 {
     if hash.len() != 32 {
-        return Told::Malformed;
+        return YesNo::Malformed;
     }
     let n = counts[0] as usize;
     let Found::At(k) = hash::find(hashes, n, hash) else {
-        return Told::No;
+        return YesNo::No;
     };
-    Told::Yes
+    YesNo::Yes
 }
 
 // The hash of node k.
@@ -274,7 +274,7 @@ fn is_among(
     a: usize,
 ) -> bool
     requires { ⌜ Valid (tables (now hashes) (now nodes) (now targets) (now nexts) (now clocks) (now counts)) ⌝ }
-    ensures { λ r. ⌜ r ≡ among (graph (tables (now (hashes .entry)) (now (nodes .entry)) (now (targets .entry)) (now (nexts .entry)) (now (clocks .entry)) (now (counts .entry)))) which a ⌝ }
+    ensures { λ r. ⌜ r ≡ actorListed (graph (tables (now (hashes .entry)) (now (nodes .entry)) (now (targets .entry)) (now (nexts .entry)) (now (clocks .entry)) (now (counts .entry)))) which a ⌝ }
 {
     let used = 0 < seq_for_actor(hashes, nodes, targets, nexts, clocks, counts, a as u64);
     match which {
@@ -296,7 +296,7 @@ fn count_among(
     m: usize,
 ) -> usize
     requires { ⌜ Valid (tables (now hashes) (now nodes) (now targets) (now nexts) (now clocks) (now counts)) ⌝ }
-    ensures { λ r. ⌜ r ≡ tally (among (graph (tables (now (hashes .entry)) (now (nodes .entry)) (now (targets .entry)) (now (nexts .entry)) (now (clocks .entry)) (now (counts .entry)))) which) m ⌝ }
+    ensures { λ r. ⌜ r ≡ tally (actorListed (graph (tables (now (hashes .entry)) (now (nodes .entry)) (now (targets .entry)) (now (nexts .entry)) (now (clocks .entry)) (now (counts .entry)))) which) m ⌝ }
 {
     let mut c: usize = 0;
     let mut a = 0;
@@ -321,7 +321,7 @@ pub fn actor_ids(
     out: &mut [u32],
 ) -> Listed
     requires { ⌜ Valid (tables (now hashes) (now nodes) (now targets) (now nexts) (now clocks) (now counts)) ⌝ }
-    ensures { λ r. ⌜ r ≡ listed (actor-list (tables (now (hashes .entry)) (now (nodes .entry)) (now (targets .entry)) (now (nexts .entry)) (now (clocks .entry)) (now (counts .entry))) which) (length (now (out .entry))) ⌝ }
+    ensures { λ r. ⌜ r ≡ listAnswer (actor-list (tables (now (hashes .entry)) (now (nodes .entry)) (now (targets .entry)) (now (nexts .entry)) (now (clocks .entry)) (now (counts .entry))) which) (length (now (out .entry))) ⌝ }
     ensures { λ _. ⌜ now (out .exit) ≡ filled (actor-list (tables (now (hashes .entry)) (now (nodes .entry)) (now (targets .entry)) (now (nexts .entry)) (now (clocks .entry)) (now (counts .entry))) which) (now (out .entry)) ⌝ }
 {
     let m = counts[2] as usize;

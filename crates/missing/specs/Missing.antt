@@ -10,7 +10,7 @@ use Rattle.paper.specs.Lists.{hashes-of}
 use Rattle.paper.specs.Text.{flat}
 use Rattle.paper.specs.Graph.{Graph, nodes, missing}
 use Rattle.tables.specs.Tables.{actorAt, seqAt}
-use Rattle.answer_buffer.specs.Answers.{whole-list, listed, filled}
+use Rattle.answer_buffer.specs.Answers.{whole-list, listAnswer, filled}
 use Rattle.answer_buffer.specs.declared.Listed.{Listed}
 use Rattle.answer_buffer.specs.declared.Listed.the-variants.{Done, Malformed}
 
@@ -30,7 +30,7 @@ missing-hashes g have = flat (map (g .hash) (missing g (nodes g (hashes-of have)
 
 -- with an empty have-list all hashes of the table, which is not written; else the list goes into the buffer
 unfoldable pub missing-told : Graph → List ℕ → ℕ → Listed
-missing-told g have room = cond (whole-list have) (cond (eqb (length have) 0) (Done (32 * g .size)) (listed (missing-hashes g have) room)) Malformed
+missing-told g have room = cond (whole-list have) (cond (eqb (length have) 0) (Done (32 * g .size)) (listAnswer (missing-hashes g have) room)) Malformed
 
 unfoldable pub missing-filled : Graph → List ℕ → List ℕ → List ℕ
 missing-filled g have out = cond (whole-list have) (cond (eqb (length have) 0) out (filled (missing-hashes g have) out)) out

@@ -14,7 +14,7 @@ use Rattle.paper.proofs.Bools.{pick-ext}
 use Rattle.hash.specs.HashLaws.{hash-length}
 use Rattle.tables.specs.Tables.{Tables, changes, actorAt, seqAt, graph}
 use Rattle.tables.specs.Valid.{Valid}
-use Rattle.answer_buffer.specs.Answers.{listed, filled}
+use Rattle.answer_buffer.specs.Answers.{listAnswer, filled}
 use Rattle.answer_buffer.specs.Room.{room, actor-low}
 use Rattle.answer_buffer.specs.declared.Listed.the-variants.{Done, Malformed}
 use Rattle.list_clock.specs.Clocks.{clock-entries, Entries}
@@ -54,7 +54,7 @@ module _ (g : Graph) (have : List ℕ) where
     unfolding missing-filled
     empty-filled z out = rw (eq-eqb (length have % 32) 0 e, eq-eqb (length have) 0 z)
 
-    pub list-told : (length have ≡ 0 → ⊥) → (room : ℕ) → missing-told g have room ≡ listed (missing-hashes g have) room
+    pub list-told : (length have ≡ 0 → ⊥) → (room : ℕ) → missing-told g have room ≡ listAnswer (missing-hashes g have) room
     unfolding missing-told
     list-told n room = rw (eq-eqb (length have % 32) 0 e, ne-eqb (length have) 0 n)
 

@@ -8,7 +8,7 @@ ghost use Rattle.paper.specs.Lists.{pick, tally, hashAt};
 ghost use Rattle.paper.specs.Text.{flat};
 ghost use Rattle.tables.specs.Tables.{tables, graph};
 ghost use Rattle.tables.specs.Valid.{Valid};
-ghost use Rattle.answer_buffer.specs.Answers.{listed, filled};
+ghost use Rattle.answer_buffer.specs.Answers.{listAnswer, filled};
 ghost use Rattle.missing.specs.Missing.{above-at, Within, missing-told, missing-filled, Shown, shown};
 use answer_buffer::Listed;
 
@@ -41,7 +41,7 @@ fn count_above(nodes: &[u32], n: usize, clock: &[u32]) -> usize
 // The hashes of those that are above, in node order.
 fn above_into(hashes: &[u8], nodes: &[u32], n: usize, clock: &[u32], out: &mut [u8]) -> Listed
     requires { ⌜ Within (now nodes) n (now clock) × (32 * n ≤ length (now hashes)) ⌝ }
-    ensures { λ r. ⌜ r ≡ listed (flat (map (hashAt (now (hashes .entry))) (pick (above-at (now (nodes .entry)) (now (clock .entry))) n))) (length (now (out .entry))) ⌝ }
+    ensures { λ r. ⌜ r ≡ listAnswer (flat (map (hashAt (now (hashes .entry))) (pick (above-at (now (nodes .entry)) (now (clock .entry))) n))) (length (now (out .entry))) ⌝ }
     ensures { λ _. ⌜ now (out .exit) ≡ filled (flat (map (hashAt (now (hashes .entry))) (pick (above-at (now (nodes .entry)) (now (clock .entry))) n))) (now (out .entry)) ⌝ }
 {
     let count = count_above(nodes, n, clock);

@@ -12,7 +12,7 @@ use lib.ListN.{length, drop, getD, set, replicate, length-set, length-replicate}
 use lib.Seq.{getD-set-same, getD-set-other}
 use borrow.Author.Tests.{eq-eqb, ne-eqb, eqb-true, eqb-false}
 use Rattle.paper.specs.Lists.{each-below, first-below, hashes-of}
-use Rattle.paper.specs.Graph.{Graph, nodes, change-at, max-op-of, op-clock, Valid as ValidGraph}
+use Rattle.paper.specs.Graph.{Graph, nodes, change-at, max-op-of, op-clock, ValidGraph as ValidGraph}
 use Rattle.paper.proofs.Bools.{by-bool, not-both, and-fst, and-snd, below-or-not}
 use Rattle.paper.proofs.First.{first-says}
 use Rattle.paper.proofs.Chain.{same-node}
@@ -22,7 +22,7 @@ use Rattle.tables.specs.Valid.{Valid}
 use Rattle.tables.specs.DepsLaws.{valid-graph}
 use Rattle.walk.specs.Whole.{cleared}
 use Rattle.lookups.specs.LookupLaws.{change-says, max-op-known, max-op-none}
-use Rattle.answer_buffer.specs.Answers.{listed, filled}
+use Rattle.answer_buffer.specs.Answers.{listAnswer, filled}
 use Rattle.answer_buffer.specs.AnswerLaws.{filled-done}
 use Rattle.answer_buffer.specs.Room.{room, actor-low}
 use Rattle.answer_buffer.specs.declared.Listed.the-variants.{Malformed}
@@ -145,7 +145,7 @@ module _ (t : Tables) (bytes : List ℕ) where
   unfolding op-clock-filled
   unfilled-bad n out = rw (ne-eqb (length bytes % 32) 0 n)
 
-  pub ops-good : length bytes % 32 ≡ 0 → (room : ℕ) → op-clock-told t bytes room ≡ listed (whole-op-clock t bytes) room
+  pub ops-good : length bytes % 32 ≡ 0 → (room : ℕ) → op-clock-told t bytes room ≡ listAnswer (whole-op-clock t bytes) room
   unfolding op-clock-told
   ops-good e room = rw (eq-eqb (length bytes % 32) 0 e)
 

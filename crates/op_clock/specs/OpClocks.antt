@@ -9,7 +9,7 @@ use lib.ListN.{length, getD}
 use Rattle.paper.specs.Lists.{each-below, hashes-of}
 use Rattle.paper.specs.Graph.{Graph, nodes, op-clock}
 use Rattle.tables.specs.Tables.{Tables, graph, actors, actorAt, seqAt, maxOpAt}
-use Rattle.answer_buffer.specs.Answers.{whole-list, listed, filled}
+use Rattle.answer_buffer.specs.Answers.{whole-list, listAnswer, filled}
 use Rattle.answer_buffer.specs.declared.Listed.{Listed}
 use Rattle.answer_buffer.specs.declared.Listed.the-variants.{Malformed}
 
@@ -22,7 +22,7 @@ abbrev pub whole-op-clock : Tables → List ℕ → List ℕ
 whole-op-clock t bytes = each-below (op-entries (graph t) bytes) (actors t)
 
 unfoldable pub op-clock-told : Tables → List ℕ → ℕ → Listed
-op-clock-told t bytes room = cond (whole-list bytes) (listed (whole-op-clock t bytes) room) Malformed
+op-clock-told t bytes room = cond (whole-list bytes) (listAnswer (whole-op-clock t bytes) room) Malformed
 
 unfoldable pub op-clock-filled : Tables → List ℕ → List ℕ → List ℕ
 op-clock-filled t bytes out = cond (whole-list bytes) (filled (whole-op-clock t bytes) out) out

@@ -6,7 +6,7 @@ use mathlib.Core.List.{List, [], _∷_, _++_}
 use Prim.Native.Nat.{ℕ, _+_}
 use native.Mathlib.Omega.{arith}
 use Rattle.paper.specs.Lists.{tally, count}
-use Rattle.paper.specs.Queue.{Waiting, Queue, of-list, order, rest, dropped, kept, Books, Call, push, hand-over, release, drop-branch, changes, fresh, after-release, after-drop, after, after-all, Balanced}
+use Rattle.paper.specs.Queue.{Waiting, Queue, of-list, order, rest, dropped, kept, Books, Call, push, hand-over, release, drop-branch, changes-at, fresh, after-release, after-drop, after, after-all, Balanced}
 use Rattle.paper.proofs.Count.{count-nil, count-append, count-map, count-places}
 use Rattle.paper.proofs.Ready.{order-rest}
 use Rattle.paper.proofs.Dropped.{dropped-kept}
@@ -16,8 +16,8 @@ count-list : (p : Waiting → Bool) (l : List Waiting) → count p l ≡ tally (
 unfolding of-list
 count-list p l = count-places p l _
 
-count-changes : (p : Waiting → Bool) (q : Queue) (l : List ℕ) → count p (changes q l) ≡ count (λ i. p (q .at i)) l
-unfolding changes
+count-changes : (p : Waiting → Bool) (q : Queue) (l : List ℕ) → count p (changes-at q l) ≡ count (λ i. p (q .at i)) l
+unfolding changes-at
 count-changes p q l = count-map p (q .at) l
 
 pub balanced-after : (c : Call) (b : Books) → Balanced b → Balanced (after c b)
@@ -33,7 +33,7 @@ balanced-after (release known) b h p =
       order-rest known q (λ i. p (q .at i)),
       count-changes p q (rest known q),
       count-changes p q (order known q),
-      count-append p (b .released) (changes q (order known q)),
+      count-append p (b .released) (changes-at q (order known q)),
     )
 balanced-after (drop-branch key from) b h p =
     let q = of-list (b .waiting) in
@@ -44,7 +44,7 @@ balanced-after (drop-branch key from) b h p =
       dropped-kept q key from (λ i. p (q .at i)),
       count-changes p q (kept q key from),
       count-changes p q (dropped q key from),
-      count-append p (b .gone) (changes q (dropped q key from)),
+      count-append p (b .gone) (changes-at q (dropped q key from)),
     )
 
 balanced-on : (cs : List Call) (b : Books) → Balanced b → Balanced (after-all cs b)

@@ -10,7 +10,7 @@ use native.Mathlib.Omega.{arith}
 use lib.Dec.{eqb, ltb, leb}
 use borrow.Author.Tests.{ltb-true, ltb-false, lt-ltb, le-ltb, leb-true, leb-false, le-leb, lt-leb, eqb-true, eqb-false, eq-eqb}
 use Rattle.paper.specs.Lists.{mem, pick, tally, sum-below}
-use Rattle.paper.specs.Graph.{Graph, hist, top, Held, clock-of, clock, Covers, above, missing, shared, Valid, Precedes, ChainedOld, Chained}
+use Rattle.paper.specs.Graph.{Graph, hist, top, Held, clock-of, clock, Covers, above, missing, shared, ValidGraph, Precedes, ChainedOld, Chained}
 use Rattle.paper.specs.ProofWords.{Closed}
 use Rattle.paper.proofs.Bools.{split, by-bool, not-both, to-false, same-bool, or-cases, or-left, or-right, and-both, and-fst, and-snd, not-is, is-not, below-suc, mem-here, mem-single, mem-pick, pick-mem, pick-ext, tally-ext, tally-up, tally-place, sum-ext, sum-add, sum-zero, sum-one}
 use Rattle.paper.proofs.History.{hist-least, hist-start, hist-known, hist-closed}
@@ -30,7 +30,7 @@ by-actor actor A h (suc m) low =
 
 -- ---- the numbering
 
-module _ (g : Graph) (v : Valid g) where
+module _ (g : Graph) (v : ValidGraph g) where
   -- the numbering, told by an actor that the node has
   runs-at : (k a : ℕ) → k < g .size → g .actor k ≡ a → g .seq k ≡ suc (tally (λ j. eqb (g .actor j) a) k)
   runs-at k a l e = subst (λ (x : ℕ). g .seq k ≡ suc (tally (λ j. eqb (g .actor j) x) k)) e (v .runs k l)
@@ -97,7 +97,7 @@ module _ (g : Graph) (v : Valid g) where
 
 -- ---- chained, by clocks: a computable test
 
-module _ (g : Graph) (v : Valid g) where
+module _ (g : Graph) (v : ValidGraph g) where
   -- the clock of a node's dependencies is below the node's own sequence, at its actor
   pub deps-below : (k : ℕ) → k < g .size → clock g (g .deps k) (g .actor k) < g .seq k
   deps-below k l =
@@ -147,7 +147,7 @@ module _ (g : Graph) (v : Valid g) where
 
 -- ---- a closed set on a chained graph
 
-module _ (g : Graph) (v : Valid g) (c : Chained g) (h : ℕ → Bool) (closed : Closed g h) where
+module _ (g : Graph) (v : ValidGraph g) (c : Chained g) (h : ℕ → Bool) (closed : Closed g h) where
   -- what a member depends on, directly or not, is a member
   inside : (k j : ℕ) → k < g .size → h k ≡ true → hist g (k ∷ []) j ≡ true → h j ≡ true
   unfolding Closed
@@ -205,7 +205,7 @@ module _ (g : Graph) (v : Valid g) (c : Chained g) (h : ℕ → Bool) (closed : 
 
 -- ---- T3, T4, T5: histories by their clocks
 
-module _ (g : Graph) (v : Valid g) (c : Chained g) where
+module _ (g : Graph) (v : ValidGraph g) (c : Chained g) where
   -- T3: a node is in the history exactly if its sequence is at or below its actor's entry
   pub in-history : (s : List ℕ) (k : ℕ) → k < g .size → (hist g s k ≡ true) ↔ (g .seq k ≤ clock g s (g .actor k))
   unfolding clock
@@ -298,7 +298,7 @@ module _ (g : Graph) (v : Valid g) (c : Chained g) where
 
 -- ---- R-13: joining and sharing distribute over each other
 
-module _ (g : Graph) (v : Valid g) where
+module _ (g : Graph) (v : ValidGraph g) where
   pub share-join : (s t u : List ℕ) (k : ℕ) → shared g s (t ++ u) k ≡ (shared g s t k || shared g s u k)
   unfolding shared
   share-join s t u k = ap (λ (b : Bool). hist g s k && b) (hist-append g v t u k) ∙ and-or-distrib-left (hist g s k) (hist g t k) (hist g u k)

@@ -10,7 +10,7 @@ use native.Mathlib.Omega.{arith}
 use lib.Dec.{eqb, ltb, leb}
 use borrow.Author.Tests.{ltb-true, lt-ltb, leb-true, leb-false, eqb-true, eqb-false, eq-eqb}
 use Rattle.paper.specs.Lists.{mem}
-use Rattle.paper.specs.Graph.{Graph, own, look, pass, known, hist, top, Held, clock-of, clock, Covers, Valid}
+use Rattle.paper.specs.Graph.{Graph, own, look, pass, known, hist, top, Held, clock-of, clock, Covers, ValidGraph}
 use Rattle.paper.proofs.Bools.{split, by-bool, not-both, to-false, same-bool, or-cases, or-left, or-right, and-both, and-fst, and-snd, below-suc, mem-here, mem-cons, mem-single, mem-append}
 use Rattle.paper.proofs.History.{hist-least, hist-start, hist-known, hist-closed}
 
@@ -103,7 +103,7 @@ top-one g k m a l =
 
 -- ---- the two laws of a list's clock
 
-module _ (g : Graph) (v : Valid g) (s : List ℕ) where
+module _ (g : Graph) (v : ValidGraph g) (s : List ℕ) where
   -- every node of the history is at or below its actor's entry
   pub clock-upper : (k : ℕ) → hist g s k ≡ true → g .seq k ≤ clock g s (g .actor k)
   unfolding clock clock-of
@@ -121,7 +121,7 @@ module _ (g : Graph) (v : Valid g) (s : List ℕ) where
 
 -- ---- T1: the history of two lists joined is the two histories, and its clock the larger entries
 
-module _ (g : Graph) (v : Valid g) where
+module _ (g : Graph) (v : ValidGraph g) where
   pub hist-append : (s t : List ℕ) (k : ℕ) → hist g (s ++ t) k ≡ (hist g s k || hist g t k)
   hist-append s t k =
       same-bool (hist g (s ++ t) k) (hist g s k || hist g t k)

@@ -9,7 +9,7 @@ use native.Mathlib.Nat.{eq-or-lt-of-le, le-of-suc-le-suc}
 use lib.Dec.{eqb}
 use native.Mathlib.Omega.{arith}
 use Rattle.paper.specs.Lists.{mem, tally, some-below}
-use Rattle.paper.specs.Graph.{Graph, own, hist, clock, wanted, Valid, Precedes, Chained}
+use Rattle.paper.specs.Graph.{Graph, own, hist, clock, wanted, ValidGraph, Precedes, Chained}
 use Rattle.paper.specs.ProofWords.{Extends}
 use Rattle.paper.proofs.Bools.{same-bool, by-bool, not-both, to-false, or-cases, or-left, or-right, below-suc, mem-single, tally-ext, some-ext, of-some}
 use Rattle.paper.proofs.History.{hist-least, hist-start, hist-known, hist-closed}
@@ -17,7 +17,7 @@ use Rattle.paper.proofs.Clock.{clock-upper, clock-least, clock-node}
 use Rattle.paper.proofs.Chain.{chained-clock, clock-chained}
 
 -- a history depends on the dependencies alone
-module _ (g g′ : Graph) (v : Valid g) (v′ : Valid g′) (longer : g .size ≤ g′ .size) (depss : (k : ℕ) → k < g .size → g′ .deps k ≡ g .deps k)
+module _ (g g′ : Graph) (v : ValidGraph g) (v′ : ValidGraph g′) (longer : g .size ≤ g′ .size) (depss : (k : ℕ) → k < g .size → g′ .deps k ≡ g .deps k)
     (s : List ℕ) (old : (k : ℕ) → k < g′ .size → mem k s ≡ true → k < g .size) where
   pub hist-same : (k : ℕ) → hist g′ s k ≡ hist g s k
   hist-same k =
@@ -38,7 +38,7 @@ module _ (g g′ : Graph) (v : Valid g) (v′ : Valid g′) (longer : g .size �
       (λ i l e. (l, hist-start g′ s i (omega arith) e))
       k e) .1)
 
-module _ (g g′ : Graph) (v : Valid g) (v′ : Valid g′) (x : Extends g g′) (s : List ℕ) (old : (k : ℕ) → mem k s ≡ true → k < g .size) where
+module _ (g g′ : Graph) (v : ValidGraph g) (v′ : ValidGraph g′) (x : Extends g g′) (s : List ℕ) (old : (k : ℕ) → mem k s ≡ true → k < g .size) where
   pub hist-extend : (k : ℕ) → hist g′ s k ≡ hist g s k
   hist-extend = hist-same g g′ v v′ (x .longer) (x .depss) s (λ k l e. old k e)
 
@@ -63,13 +63,13 @@ module _ (g g′ : Graph) (v : Valid g) (v′ : Valid g′) (x : Extends g g′)
 
 -- ---- one node more: g′ is g with a node at the end, whose dependencies are known and whose sequence is its actor's next
 
-module _ (g g′ : Graph) (v : Valid g) (x : Extends g g′) (one : g′ .size ≡ suc (g .size))
+module _ (g g′ : Graph) (v : ValidGraph g) (x : Extends g g′) (one : g′ .size ≡ suc (g .size))
     (low : (j : ℕ) → mem j (g′ .deps (g .size)) ≡ true → j < g .size)
     (next : g′ .seq (g .size) ≡ suc (tally (λ j. eqb (g .actor j) (g′ .actor (g .size))) (g .size))) where
   each : (P : ℕ → Type 0) → ((k : ℕ) → k < g .size → P k) → P (g .size) → (k : ℕ) → k < g′ .size → P k
   each P old new k l = below-suc P (g .size) k (omega arith) (old k) new
 
-  pub valid-add : Valid g′
+  pub valid-add : ValidGraph g′
   valid-add =
       record {
         down =

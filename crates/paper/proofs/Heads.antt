@@ -8,13 +8,13 @@ use native.Mathlib.Omega.{arith}
 use lib.Dec.{eqb, ltb}
 use borrow.Author.Tests.{ltb-true, ltb-false}
 use Rattle.paper.specs.Lists.{mem, pick, tally}
-use Rattle.paper.specs.Graph.{Graph, hist, clock, wanted, head-nodes, Valid}
+use Rattle.paper.specs.Graph.{Graph, hist, clock, wanted, head-nodes, ValidGraph}
 use Rattle.paper.proofs.Bools.{by-bool, not-is, mem-pick, of-some}
 use Rattle.paper.proofs.History.{hist-start, hist-closed}
 use Rattle.paper.proofs.Clock.{clock-upper}
 use Rattle.paper.proofs.Chain.{node-at, clock-le-count}
 
-module _ (g : Graph) (v : Valid g) (s : List ℕ) (all : (k : ℕ) → k < g .size → wanted g k ≡ false → mem k s ≡ true) where
+module _ (g : Graph) (v : ValidGraph g) (s : List ℕ) (all : (k : ℕ) → k < g .size → wanted g k ≡ false → mem k s ≡ true) where
   -- d bounds how many nodes stand above k
   above-in : (d k : ℕ) → k < g .size → g .size ≤ k + d → hist g s k ≡ true
   unfolding wanted
@@ -43,6 +43,6 @@ module _ (g : Graph) (v : Valid g) (s : List ℕ) (all : (k : ℕ) → k < g .si
       omega (arith, r .value))
       (λ f. let b = ltb-false 0 (tally (λ k. eqb (g .actor k) a) (g .size)) f in omega arith)
 
-pub heads-whole : (g : Graph) → Valid g → (k : ℕ) → k < g .size → hist g (head-nodes g) k ≡ true
+pub heads-whole : (g : Graph) → ValidGraph g → (k : ℕ) → k < g .size → hist g (head-nodes g) k ≡ true
 unfolding head-nodes
 heads-whole g v = whole g v (head-nodes g) (λ k l f. mem-pick (λ j. not (wanted g j)) (g .size) k l (not-is (wanted g k) f))

@@ -10,7 +10,7 @@ use native.Mathlib.Omega.{arith}
 use lib.Dec.{eqb, ltb}
 use borrow.Author.Tests.{ltb-true, lt-ltb, eqb-true, eq-eqb}
 use Rattle.paper.specs.Lists.{mem}
-use Rattle.paper.specs.Graph.{Graph, Reach, start, step, look, pass, known, hist, Valid}
+use Rattle.paper.specs.Graph.{Graph, Reach, start, step, look, pass, known, hist, ValidGraph}
 use Rattle.paper.proofs.Bools.{split, by-bool, not-both, to-false, same-bool, or-cases, or-left, or-right, and-both, and-fst, and-snd, below-suc, mem-here, mem-cons, mem-single, mem-append}
 
 -- a mark after a look at m
@@ -50,7 +50,7 @@ pub hist-start : (g : Graph) (s : List ℕ) (k : ℕ) → k < g .size → mem k 
 unfolding hist known
 hist-start g s k l e = pass-keeps g (g .size) (known g s) k (and-both (ltb k (g .size)) (mem k s) (lt-ltb k (g .size) l) e)
 
-module _ (g : Graph) (v : Valid g) where
+module _ (g : Graph) (v : ValidGraph g) where
   pass-high : (m : ℕ) (w : ℕ → Bool) (k : ℕ) → m ≤ g .size → m ≤ k → pass g m w k ≡ true → w k ≡ true
   unfolding pass
   pass-high zero w k b l e = e

@@ -8,7 +8,7 @@ use native.Mathlib.Omega.{arith}
 use native.Mathlib.Nat.{eq-or-lt-of-le}
 use lib.Dec.{eqb, leb, ltb}
 use borrow.Author.Tests.{eqb-true, leb-true, ltb-true}
-use Rattle.paper.specs.Graph.{Graph, Valid, in-range, owns, Owner, owner}
+use Rattle.paper.specs.Graph.{Graph, ValidGraph, in-range, owns, Owner, owner}
 use Rattle.paper.proofs.Bools.{not-both, to-false, and-fst, and-snd, below-or-not}
 use Rattle.paper.proofs.First.{first-says, first-none}
 use Rattle.paper.proofs.Chain.{seq-up}
@@ -17,7 +17,7 @@ pub owns-actor : (g : Graph) (a c k : ℕ) → owns g a c k ≡ true → g .acto
 unfolding owns
 owns-actor g a c k t = eqb-true (g .actor k) a (and-fst (eqb (g .actor k) a) (in-range g c k) t)
 
-pub owner-owns : (g : Graph) → Valid g → (a c : ℕ) → owner g a c < g .size → Owner g a c (owner g a c)
+pub owner-owns : (g : Graph) → ValidGraph g → (a c : ℕ) → owner g a c < g .size → Owner g a c (owner g a c)
 unfolding owner
 owner-owns g v a c l =
     let f = first-says (owns g a c) (g .size) in

@@ -8,14 +8,14 @@ use native.Mathlib.Omega.{arith}
 use lib.Dec.{eqb}
 use borrow.Author.Tests.{eqb-true, eq-eqb}
 use Rattle.paper.specs.Lists.{mem, tally}
-use Rattle.paper.specs.Graph.{Graph, hist, clock, Valid}
+use Rattle.paper.specs.Graph.{Graph, hist, clock, ValidGraph}
 use Rattle.paper.specs.ProofWords.{Relabels}
 use Rattle.paper.proofs.Bools.{same-bool, tally-ext}
 use Rattle.paper.proofs.History.{hist-known}
 use Rattle.paper.proofs.Clock.{clock-upper, clock-least}
 use Rattle.paper.proofs.Extend.{hist-same}
 
-module _ (f : ℕ → ℕ) (g g′ : Graph) (v : Valid g) (x : Relabels f g g′) where
+module _ (f : ℕ → ℕ) (g g′ : Graph) (v : ValidGraph g) (x : Relabels f g g′) where
   same-test : (j k : ℕ) → j < g .size → k < g .size → eqb (g′ .actor j) (g′ .actor k) ≡ eqb (g .actor j) (g .actor k)
   same-test j k lj lk =
       ap₂ (λ (a b : ℕ). eqb a b) (x .actors j lj) (x .actors k lk)
@@ -23,7 +23,7 @@ module _ (f : ℕ → ℕ) (g g′ : Graph) (v : Valid g) (x : Relabels f g g′
       (λ e. eq-eqb (g .actor j) (g .actor k) (x .apart j k lj lk (eqb-true (f (g .actor j)) (f (g .actor k)) e)))
       (λ e. eq-eqb (f (g .actor j)) (f (g .actor k)) (ap f (eqb-true (g .actor j) (g .actor k) e)))
 
-  pub valid-relabel : Valid g′
+  pub valid-relabel : ValidGraph g′
   valid-relabel =
       record {
         down = λ k j l d. let b : k < g .size = (let q = x .sizes in omega arith) in v .down k j b (rw (x .depss k b) at d);

@@ -10,7 +10,7 @@ use lib.Dec.{eqb, ltb, leb}
 use lib.ListN.{length}
 use borrow.Author.Tests.{eq-eqb, ne-eqb}
 use Rattle.paper.specs.Lists.{mem, pick, tally, some-below, first-below, sum-below, hashes-of, sameList, ascending}
-use Rattle.paper.specs.Graph.{Graph, node, nodes, hist, clock, above, missing, wanted, head-nodes, heads, in-range, owns, owner, Valid}
+use Rattle.paper.specs.Graph.{Graph, node, nodes, hist, clock, above, missing, wanted, head-nodes, heads, in-range, owns, owner, ValidGraph}
 use Rattle.paper.specs.ProofWords.{Extends, Relabels}
 use Rattle.paper.specs.Adding.{Hub, Change, seq-for-actor, edges-used, first-unknown, accepts, judged, put, grown, added}
 use Rattle.paper.proofs.Bools.{by-bool, below-suc, or-left, or-right, pick-mem, pick-ext, tally-ext, some-ext, sum-ext}
@@ -126,7 +126,7 @@ added-same u u′ x e =
 
 -- ---- answers
 
-module _ (g g′ : Graph) (v : Valid g) (e : SameGraph g g′) where
+module _ (g g′ : Graph) (v : ValidGraph g) (e : SameGraph g g′) where
   relabels : Relabels (λ a. a) g g′
   relabels =
       record {
@@ -140,7 +140,7 @@ module _ (g g′ : Graph) (v : Valid g) (e : SameGraph g g′) where
         apart = λ j k lj lk q. q;
       }
 
-  pub valid-same : Valid g′
+  pub valid-same : ValidGraph g′
   valid-same = valid-relabel (λ a. a) g g′ v relabels
 
   pub hist-same : (s : List ℕ) (k : ℕ) → hist g′ s k ≡ hist g s k

@@ -9,11 +9,11 @@ use native.Mathlib.Omega.{arith}
 use lib.Dec.{eqb, ltb, leb}
 use borrow.Author.Tests.{ltb-true, lt-ltb, leb-true, leb-false, eqb-true, eq-eqb}
 use Rattle.paper.specs.Lists.{mem, tally, some-below, all-in}
-use Rattle.paper.specs.Graph.{Graph, clock, Valid, valid-test, Precedes, ChainedOld, chained-old-test, Chained, chained-test}
+use Rattle.paper.specs.Graph.{Graph, clock, ValidGraph, valid-test, Precedes, ChainedOld, chained-old-test, Chained, chained-test}
 use Rattle.paper.proofs.Bools.{by-bool, not-both, or-cases, or-left, or-right, and-both, and-fst, and-snd, of-all, all-of, of-all-in, all-in-of, some-of, of-some}
 use Rattle.paper.proofs.Chain.{same-node, preceding, chained-clock, clock-chained}
 
-pub valid-iff : (g : Graph) → (valid-test g ≡ true) ↔ Valid g
+pub valid-iff : (g : Graph) → (valid-test g ≡ true) ↔ ValidGraph g
 unfolding valid-test
 valid-iff g = (
   (λ e.
@@ -34,7 +34,7 @@ valid-iff g = (
     run : ℕ → Bool
     run k = eqb (g .seq k) (suc (tally (λ j. eqb (g .actor j) (g .actor k)) k))
 
-module _ (g : Graph) (v : Valid g) where
+module _ (g : Graph) (v : ValidGraph g) where
   pub chained-iff : (chained-test g ≡ true) ↔ Chained g
   unfolding chained-test
   chained-iff = (

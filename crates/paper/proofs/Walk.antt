@@ -11,13 +11,13 @@ use native.Mathlib.Omega.{arith}
 use lib.Dec.{eqb, ltb}
 use borrow.Author.Tests.{ltb-true, ltb-false}
 use Rattle.paper.specs.Lists.{mem}
-use Rattle.paper.specs.Graph.{Graph, own, hist, clock-of, clock, Covers, Valid}
+use Rattle.paper.specs.Graph.{Graph, own, hist, clock-of, clock, Covers, ValidGraph}
 use Rattle.paper.specs.ProofWords.{front}
 use Rattle.paper.proofs.Bools.{by-bool, not-both, or-cases, or-left, or-right, below-suc, mem-here, mem-nil, mem-single}
 use Rattle.paper.proofs.History.{hist-least, hist-start, hist-closed, hist-known}
 use Rattle.paper.proofs.Clock.{clock-upper, clock-least, clock-node, hist-mono}
 
-module _ (g : Graph) (v : Valid g) where
+module _ (g : Graph) (v : ValidGraph g) where
   -- ---- a list's clock is its members' clocks, joined
 
   pub clock-mono : (s t : List ℕ) (a : ℕ) → ((k : ℕ) → hist g s k ≡ true → hist g t k ≡ true) → clock g s a ≤ clock g t a

@@ -147,7 +147,7 @@ remove-ancestors g hs of = ascending (keep (λ h. not (hist g (nodes g of) (node
 
 -- ---- valid, chained
 
-pub record Valid (g : Graph) : Type 0 where
+pub record ValidGraph (g : Graph) : Type 0 where
   -- a dependency is below its node
   pub down : (k j : ℕ) → k < g .size → mem j (g .deps k) ≡ true → j < k
   -- an actor's sequences run 1, 2, 3 in node order

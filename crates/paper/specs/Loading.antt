@@ -24,8 +24,8 @@ pub record Columns : Type 0 where
   pub actor-count : ℕ
 
 -- how many changes are listed
-abbrev pub listed : Columns → ℕ
-listed c = length (c .hashes) / 32
+abbrev pub listed-changes : Columns → ℕ
+listed-changes c = length (c .hashes) / 32
 
 -- how many dependencies the first k changes have
 unfoldable pub deps-before : Columns → ℕ → ℕ
@@ -39,7 +39,7 @@ deps-of c k = take (getD (c .dep-counts) k 0) (drop (deps-before c k) (c .dep-va
 abbrev pub column-graph : Columns → Graph
 column-graph c =
     record {
-      size = listed c;
+      size = listed-changes c;
       hash = λ k. hashAt (c .hashes) k;
       actor = λ k. getD (c .actors) k 0;
       seq = λ k. getD (c .seqs) k 0;
@@ -53,40 +53,40 @@ column-graph c =
 -- equal column lengths
 unfoldable pub lengths-equal : Columns → Bool
 lengths-equal c =
-    eqb (length (c .actors)) (listed c) && (eqb (length (c .seqs)) (listed c) && (eqb (length (c .max-ops)) (listed c)
-    && (eqb (length (c .op-counts)) (listed c) && eqb (length (c .dep-counts)) (listed c))))
+    eqb (length (c .actors)) (listed-changes c) && (eqb (length (c .seqs)) (listed-changes c) && (eqb (length (c .max-ops)) (listed-changes c)
+    && (eqb (length (c .op-counts)) (listed-changes c) && eqb (length (c .dep-counts)) (listed-changes c))))
 
 -- actors below the count
 unfoldable pub actors-below : Columns → Bool
-actors-below c = all-below (λ k. ltb (getD (c .actors) k 0) (c .actor-count)) (listed c)
+actors-below c = all-below (λ k. ltb (getD (c .actors) k 0) (c .actor-count)) (listed-changes c)
 
 -- rule 7: no max op above 4,294,967,295, and no op count above its max op
 unfoldable pub ops-right : Columns → Bool
-ops-right c = all-below (λ k. leb (getD (c .max-ops) k 0) 4294967295 && leb (getD (c .op-counts) k 0) (getD (c .max-ops) k 0)) (listed c)
+ops-right c = all-below (λ k. leb (getD (c .max-ops) k 0) 4294967295 && leb (getD (c .op-counts) k 0) (getD (c .max-ops) k 0)) (listed-changes c)
 
 -- at most 32 dependencies
 unfoldable pub deps-few : Columns → Bool
-deps-few c = all-below (λ k. leb (getD (c .dep-counts) k 0) 32) (listed c)
+deps-few c = all-below (λ k. leb (getD (c .dep-counts) k 0) 32) (listed-changes c)
 
 -- enough dependency values
 unfoldable pub values-enough : Columns → Bool
-values-enough c = leb (deps-before c (listed c)) (length (c .dep-values))
+values-enough c = leb (deps-before c (listed-changes c)) (length (c .dep-values))
 
 -- a dependency is below its own node
 unfoldable pub deps-below : Columns → Bool
-deps-below c = all-below (λ k. all-in (λ j. ltb j k) (deps-of c k)) (listed c)
+deps-below c = all-below (λ k. all-in (λ j. ltb j k) (deps-of c k)) (listed-changes c)
 
 -- a change's max op is not below that of any dependency
 unfoldable pub max-ops-rise : Columns → Bool
-max-ops-rise c = all-below (λ k. all-in (λ j. leb (getD (c .max-ops) j 0) (getD (c .max-ops) k 0)) (deps-of c k)) (listed c)
+max-ops-rise c = all-below (λ k. all-in (λ j. leb (getD (c .max-ops) j 0) (getD (c .max-ops) k 0)) (deps-of c k)) (listed-changes c)
 
 -- an actor's sequences run 1, 2, 3 in node order
 unfoldable pub sequences-run : Columns → Bool
-sequences-run c = all-below (λ k. eqb (getD (c .seqs) k 0) (suc (tally (λ j. eqb (getD (c .actors) j 0) (getD (c .actors) k 0)) k))) (listed c)
+sequences-run c = all-below (λ k. eqb (getD (c .seqs) k 0) (suc (tally (λ j. eqb (getD (c .actors) j 0) (getD (c .actors) k 0)) k))) (listed-changes c)
 
 -- no hash stands twice
 unfoldable pub hashes-distinct : Columns → Bool
-hashes-distinct c = all-below (λ k. not (some-below (λ j. sameList (hashAt (c .hashes) j) (hashAt (c .hashes) k)) k)) (listed c)
+hashes-distinct c = all-below (λ k. not (some-below (λ j. sameList (hashAt (c .hashes) j) (hashAt (c .hashes) k)) k)) (listed-changes c)
 
 -- two lists name the same hashes, order and repeats ignored
 unfoldable pub same-hashes : List (List ℕ) → List (List ℕ) → Bool
@@ -110,8 +110,8 @@ judged-load n e a c =
     cond (not (eqb (length (c .hashes) % 32) 0) || not (eqb (length (c .heads) % 32) 0)) malformed
     (cond (ltb a (c .actor-count)) no-actor-room
     (cond (not (agree c)) columns-disagree
-    (cond (ltb n (listed c)) no-node-room
-    (cond (ltb e (deps-before c (listed c))) no-edge-room done))))
+    (cond (ltb n (listed-changes c)) no-node-room
+    (cond (ltb e (deps-before c (listed-changes c))) no-edge-room done))))
 
 -- ---- the changes
 
@@ -134,4 +134,4 @@ change-of c k =
 
 -- all of them, in node order
 unfoldable pub changes-of : Columns → List Change
-changes-of c = each-below (change-of c) (listed c)
+changes-of c = each-below (change-of c) (listed-changes c)

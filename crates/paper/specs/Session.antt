@@ -61,13 +61,13 @@ answer u (add h a s m k ds) = answerLine addWord (verdictText (changeOf h a s m 
 answer u bad = []
 
 -- only `add` changes the graph
-unfoldable pub after : Hub → Command → Hub
-after u heads = u
-after u (clock hs) = u
-after u (missing hs) = u
-after u (owner a c) = u
-after u (add h a s m k ds) = added u (changeOf h a s m k ds)
-after u bad = u
+unfoldable pub afterCommand : Hub → Command → Hub
+afterCommand u heads = u
+afterCommand u (clock hs) = u
+afterCommand u (missing hs) = u
+afterCommand u (owner a c) = u
+afterCommand u (add h a s m k ds) = added u (changeOf h a s m k ds)
+afterCommand u bad = u
 
 -- ---- line after line
 
@@ -79,7 +79,7 @@ pub data Phase : Type 0 where
   ended : Phase
 
 -- a phase, and the bytes that were answered on the way to it
-pub record Told : Type 0 where
+pub record PhaseAfter : Type 0 where
   pub phase : Phase
   pub said : List ℕ
 
@@ -88,44 +88,44 @@ unfoldable pub badText : ℕ → List ℕ
 badText n = answerLine (bytes "bad") (digitsOf n)
 
 -- line n is bad, and nothing follows
-unfoldable pub badLine : ℕ → Told
+unfoldable pub badLine : ℕ → PhaseAfter
 badLine n = record { phase = ended; said = badText n }
 
 -- the first line: is it the header?
-unfoldable pub firstLine : ℕ → Bool → Told
+unfoldable pub firstLine : ℕ → Bool → PhaseAfter
 firstLine n true = record { phase = second; said = [] }
 firstLine n false = badLine n
 
 -- the second line: how many actors?
-unfoldable pub secondLine : ℕ → Option ℕ → Told
+unfoldable pub secondLine : ℕ → Option ℕ → PhaseAfter
 secondLine n none = badLine n
 secondLine n (some actors) = record { phase = asking (bench actors); said = [] }
 
 -- a line that asks
-unfoldable pub asked : ℕ → Hub → Command → Told
-asked n u heads = record { phase = asking (after u heads); said = answer u heads }
-asked n u (clock hs) = record { phase = asking (after u (clock hs)); said = answer u (clock hs) }
-asked n u (missing hs) = record { phase = asking (after u (missing hs)); said = answer u (missing hs) }
-asked n u (owner a c) = record { phase = asking (after u (owner a c)); said = answer u (owner a c) }
-asked n u (add h a s m k ds) = record { phase = asking (after u (add h a s m k ds)); said = answer u (add h a s m k ds) }
-asked n u bad = badLine n
+unfoldable pub askedLine : ℕ → Hub → Command → PhaseAfter
+askedLine n u heads = record { phase = asking (afterCommand u heads); said = answer u heads }
+askedLine n u (clock hs) = record { phase = asking (afterCommand u (clock hs)); said = answer u (clock hs) }
+askedLine n u (missing hs) = record { phase = asking (afterCommand u (missing hs)); said = answer u (missing hs) }
+askedLine n u (owner a c) = record { phase = asking (afterCommand u (owner a c)); said = answer u (owner a c) }
+askedLine n u (add h a s m k ds) = record { phase = asking (afterCommand u (add h a s m k ds)); said = answer u (add h a s m k ds) }
+askedLine n u bad = badLine n
 
 -- line n of at most 2,400 bytes
-unfoldable pub shortLine : Phase → ℕ → List ℕ → Told
+unfoldable pub shortLine : Phase → ℕ → List ℕ → PhaseAfter
 shortLine first n l = firstLine n (sameList l header)
 shortLine second n l = secondLine n (actorsOf l)
-shortLine (asking u) n l = asked n u (commandOf l)
+shortLine (asking u) n l = askedLine n u (commandOf l)
 shortLine ended n l = record { phase = ended; said = [] }
 
 -- a line that is too long
-unfoldable pub longLine : Phase → ℕ → Told
+unfoldable pub longLine : Phase → ℕ → PhaseAfter
 longLine first n = badLine n
 longLine second n = badLine n
 longLine (asking u) n = badLine n
 longLine ended n = record { phase = ended; said = [] }
 
 -- line n, which LF ends
-unfoldable pub lineStep : Phase → ℕ → List ℕ → Told
+unfoldable pub lineStep : Phase → ℕ → List ℕ → PhaseAfter
 lineStep p n l = cond (leb (length l) 2400) (shortLine p n l) (longLine p n)
 
 -- what stands after the last LF as line n: an unended line, or a missing first or second one, is bad

@@ -51,8 +51,8 @@ unfoldable pub digitsAfter : ℕ → List ℕ → Option ℕ
 digitsAfter v bs = cond (allDigits bs && ltb (valueFrom v bs) (2 ^ 64)) (some (valueFrom v bs)) none
 
 -- the number that some bytes write: decimal digits with no leading 0, below 2 ^ 64
-unfoldable pub numberOf : List ℕ → Option ℕ
-numberOf bs = cond (unpadded bs) (digitsAfter 0 bs) none
+unfoldable pub decimalOf : List ℕ → Option ℕ
+decimalOf bs = cond (unpadded bs) (digitsAfter 0 bs) none
 
 -- the digits of v, for v below `fuel`: those of v / 10, and the last one
 unfoldable pub digitsBy : ℕ → ℕ → List ℕ
@@ -119,18 +119,18 @@ commas [] = []
 commas (t ∷ ts) = 44 ∷ (t ++ commas ts)
 
 -- texts joined by commas
-unfoldable pub joined : List (List ℕ) → List ℕ
-joined [] = []
-joined (t ∷ ts) = t ++ commas ts
+unfoldable pub commaJoined : List (List ℕ) → List ℕ
+commaJoined [] = []
+commaJoined (t ∷ ts) = t ++ commas ts
 
 -- a clock: its entries joined by commas
 unfoldable pub clockText : List ℕ → List ℕ
-clockText clock = joined (map digitsOf clock)
+clockText clock = commaJoined (map digitsOf clock)
 
 -- some hashes in hex joined by commas, `-` for none
 unfoldable pub listText : List (List ℕ) → List ℕ
 listText [] = 45 ∷ []
-listText (h ∷ hs) = joined (map hexOf (h ∷ hs))
+listText (h ∷ hs) = commaJoined (map hexOf (h ∷ hs))
 
 -- ---- reading the fields of a line one after the other
 

@@ -14,11 +14,11 @@ use Rattle.queue.specs.declared.Handed.{Handed}
 use Rattle.queue.specs.declared.Handed.the-variants.{Done, NotValid, Clash, Full}
 
 -- the paper's numbers
-abbrev pub numberOf : Handed → ℕ
-numberOf Done = number done
-numberOf NotValid = number not-valid
-numberOf Clash = number already-waiting
-numberOf Full = number no-queue-room
+abbrev pub handedNumber : Handed → ℕ
+handedNumber Done = number done
+handedNumber NotValid = number not-valid
+handedNumber Clash = number already-waiting
+handedNumber Full = number no-queue-room
 
 -- record i of the batch has the hash, or the actor and sequence, of one of the first n of the queue
 unfoldable pub clashAt : List ℕ → List ℕ → ℕ → List ℕ → List ℕ → ℕ → Bool

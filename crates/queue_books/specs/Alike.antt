@@ -11,7 +11,7 @@ use lib.ListN.{length, take, getD, length-take}
 use lib.Seq.{getD-take}
 use borrow.Author.Tests.{ltb-true}
 use Rattle.paper.specs.Lists.{sameList, mem, names, pick, every}
-use Rattle.paper.specs.Queue.{Waiting, Queue, among, met, first, freed, orderFrom, order, rest, branch, children, dropFrom, dropped, kept, changes}
+use Rattle.paper.specs.Queue.{Waiting, Queue, among, met, first, freed, orderFrom, order, rest, branch, children, dropFrom, dropped, kept, changes-at}
 use Rattle.paper.proofs.Bools.{by-bool, or-cases, mem-here, mem-append, mem-getD, mem-place, or-right, mem-cons, pick-mem, pick-ext, or-left}
 
 -- the same size, and the same changes below it
@@ -134,7 +134,7 @@ module _ (p q : Queue) (al : Alike p q) where
     kept-alike = rw (dropped-alike, al .sizes)
 
   -- the changes at positions that wait
-  pub changes-alike : (l : List ℕ) → Low (p .size) l → changes p l ≡ changes q l
-  unfolding changes
+  pub changes-alike : (l : List ℕ) → Low (p .size) l → changes-at p l ≡ changes-at q l
+  unfolding changes-at
   changes-alike [] w = refl
   changes-alike (i ∷ l) w = rw (al .same i (w .low i (mem-here i l)), changes-alike l (low-tail w))

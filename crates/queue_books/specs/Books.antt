@@ -11,16 +11,16 @@ use lib.Dec.{ltb}
 use lib.ListN.{length, getD, set}
 use borrow.Author.Tests.{ltb-false}
 use Rattle.paper.specs.Lists.{mem, names, hashAt}
-use Rattle.paper.specs.Queue.{Waiting, Queue, of-list, order, rest, dropped, kept, Books, fresh, Call, push, hand-over, release, drop-branch, changes, after-release, after-drop, after, after-all, Balanced}
+use Rattle.paper.specs.Queue.{Waiting, Queue, of-list, order, rest, dropped, kept, Books, fresh, Call, push, hand-over, release, drop-branch, changes-at, after-release, after-drop, after, after-all, Balanced}
 use Rattle.paper.proofs.Books.{balanced-always}
 use Rattle.ready.specs.Tables.{queueOf, recordAt, knownIn}
 use Rattle.records.specs.Records.{Filled, placeOf}
-use Rattle.waiting.specs.Valid.{Store, GoodStore, room, waiting, Laid, Valid, Checked, Same, isRoomy, OpenedTo}
+use Rattle.waiting.specs.Valid.{Store, GoodStore, room, waiting, StoreLaid, StoreValid, HeldOrNot, Same, isRoomy, OpenedTo}
 use Rattle.waiting.specs.ValidLaws.{roomy-rooms}
 use Rattle.waiting.specs.Taken.{TakenOut}
-use Rattle.waiting.specs.declared.Opened.{Opened}
-use Rattle.waiting.specs.declared.Opened.the-variants.{Done as Open, NotValid as NotOpen}
-use Rattle.batch.specs.Push.{judged, PushedTo}
+use Rattle.waiting.specs.declared.StoreOpened.{StoreOpened}
+use Rattle.waiting.specs.declared.StoreOpened.the-variants.{Done as Open, NotValid as NotOpen}
+use Rattle.batch.specs.Push.{pushJudged, PushedTo}
 use Rattle.batch.specs.PushLaws.{done-fine}
 use Rattle.batch.specs.declared.Pushed.{Pushed}
 use Rattle.batch.specs.declared.Pushed.the-variants.{Done, NotValid, Malformed, InBatch, Waits, TooMany, Full}
@@ -31,33 +31,33 @@ use Rattle.release.specs.Release.{Lent, readyOf, restOf, releasedAs, ReleasedTo
 use Rattle.release.specs.declared.Released.{Released}
 use Rattle.release.specs.declared.Released.the-variants.{All, Short, NotValid as NotReleased}
 use Rattle.branch.specs.Branch.{keptOf, RemovedTo}
-use Rattle.branch.specs.declared.Removed.{Removed}
-use Rattle.branch.specs.declared.Removed.the-variants.{Done as Gone, NotValid as NotGone}
-use Rattle.queue_books.specs.View.{listOf}
+use Rattle.branch.specs.declared.BranchDropped.{BranchDropped}
+use Rattle.branch.specs.declared.BranchDropped.the-variants.{Done as Gone, NotValid as NotGone}
+use Rattle.queue_books.specs.View.{recordsOf}
 use Rattle.queue_books.specs.Alike.{Alike, Low, order-alike, rest-alike, kept-alike, changes-alike}
 use Rattle.queue_books.specs.Listed.{list-alike, low-order, low-rest, low-kept}
-use Rattle.queue_books.specs.Stays.{change, opened-valid, opened-list, pushed-valid, pushed-list, handed-valid, handed-list, emptied-valid, emptied-list, taken-valid, taken-list, given-list, given-in-order}
+use Rattle.queue_books.specs.Stays.{waitingChange, opened-valid, opened-list, pushed-valid, pushed-list, handed-valid, handed-list, emptied-valid, emptied-list, taken-valid, taken-list, given-list, given-in-order}
 
 -- what waits in it
 abbrev pub held : Store → List Waiting
-held s = listOf (s .hashes) (s .numbers) (s .deps) (waiting (s .count))
+held s = recordsOf (s .hashes) (s .numbers) (s .deps) (waiting (s .count))
 
 -- ---- the promises
 
 pub record Pushing (b : Store) (h : List ℕ) (key seq top ops : ℕ) (needs : List ℕ) (r : Pushed) (b′ : Store) : Type 0 where
-  pub answer : Checked (GoodStore b) (r ≡ judged (b .hashes) (b .numbers) (b .count) h key seq needs) (r ≡ NotValid)
+  pub answer : HeldOrNot (GoodStore b) (r ≡ pushJudged (b .hashes) (b .numbers) (b .count) h key seq needs) (r ≡ NotValid)
   pub memory : PushedTo r (b .hashes) (b .numbers) (b .deps) (b .count) h key seq top ops needs (b′ .hashes) (b′ .numbers) (b′ .deps) (b′ .count)
 
 pub record Handing (q b : Store) (r : Handed) (q′ : Store) (bcs′ : List ℕ) : Type 0 where
-  pub answer : Checked (GoodStore q × GoodStore b) (r ≡ handedAs (q .hashes) (q .numbers) (q .count) (b .hashes) (b .numbers) (b .count)) (r ≡ NotOver)
+  pub answer : HeldOrNot (GoodStore q × GoodStore b) (r ≡ handedAs (q .hashes) (q .numbers) (q .count) (b .hashes) (b .numbers) (b .count)) (r ≡ NotOver)
   pub memory : HandedTo r (q .hashes) (q .numbers) (q .deps) (q .count) (b .hashes) (b .numbers) (b .deps) (b .count) (q′ .hashes) (q′ .numbers) (q′ .deps) (q′ .count) bcs′
 
 pub record Releasing (gs : List ℕ) (k : ℕ) (q : Store) (th tn td : List ℕ) (r : Released) (q′ : Store) (th′ tn′ td′ : List ℕ) : Type 0 where
-  pub answer : Checked (Lent gs k (q .hashes) (q .numbers) (q .deps) (q .count)) (r ≡ releasedAs (readyOf gs k (q .hashes) (q .numbers) (q .deps) (q .count)) th tn td) (r ≡ NotReleased)
+  pub answer : HeldOrNot (Lent gs k (q .hashes) (q .numbers) (q .deps) (q .count)) (r ≡ releasedAs (readyOf gs k (q .hashes) (q .numbers) (q .deps) (q .count)) th tn td) (r ≡ NotReleased)
   pub memory : ReleasedTo r gs k (q .hashes) (q .numbers) (q .deps) (q .count) th tn td (q′ .hashes) (q′ .numbers) (q′ .deps) (q′ .count) th′ tn′ td′
 
-pub record Dropping (q : Store) (key from : ℕ) (r : Removed) (q′ : Store) : Type 0 where
-  pub answer : Checked (GoodStore q) (r ≡ Gone) (r ≡ NotGone)
+pub record Dropping (q : Store) (key from : ℕ) (r : BranchDropped) (q′ : Store) : Type 0 where
+  pub answer : HeldOrNot (GoodStore q) (r ≡ Gone) (r ≡ NotGone)
   pub memory : RemovedTo r (q .hashes) (q .numbers) (q .deps) (q .count) key from (q′ .hashes) (q′ .numbers) (q′ .deps) (q′ .count)
 
 -- what a call adds to the paper's list of calls: one where it answers 0, none where not
@@ -81,7 +81,7 @@ release-calls (All n) known = release known ∷ []
 release-calls Short known = []
 release-calls NotReleased known = []
 
-abbrev pub drop-calls : Removed → ℕ → ℕ → List Call
+abbrev pub drop-calls : BranchDropped → ℕ → ℕ → List Call
 drop-calls Gone key from = drop-branch key from ∷ []
 drop-calls NotGone key from = []
 
@@ -89,12 +89,12 @@ drop-calls NotGone key from = []
 pub data Runs : Store → Store → List Call → Store → Store → Type 0 where
   stop : (q b : Store) → Runs q b [] q b
   pushing : (q b b₁ q′ b′ : Store) (h : List ℕ) (key seq top ops : ℕ) (needs : List ℕ) (r : Pushed) (cs all : List Call)
-      → Pushing b h key seq top ops needs r b₁ → all ≡ push-calls r (change h key seq top ops needs) ++ cs → Runs q b₁ cs q′ b′ → Runs q b all q′ b′
+      → Pushing b h key seq top ops needs r b₁ → all ≡ push-calls r (waitingChange h key seq top ops needs) ++ cs → Runs q b₁ cs q′ b′ → Runs q b all q′ b′
   handing : (q b q₁ q′ b′ : Store) (bcs′ : List ℕ) (r : Handed) (cs all : List Call)
       → Handing q b r q₁ bcs′ → all ≡ hand-calls r ++ cs → Runs q₁ (record { hashes = b .hashes; numbers = b .numbers; deps = b .deps; count = bcs′ }) cs q′ b′ → Runs q b all q′ b′
   releasing : (q b q₁ q′ b′ : Store) (gs : List ℕ) (k : ℕ) (th tn td th′ tn′ td′ : List ℕ) (r : Released) (cs all : List Call)
       → Releasing gs k q th tn td r q₁ th′ tn′ td′ → all ≡ release-calls r (knownIn gs k) ++ cs → Runs q₁ b cs q′ b′ → Runs q b all q′ b′
-  dropping : (q b q₁ q′ b′ : Store) (key from : ℕ) (r : Removed) (cs all : List Call)
+  dropping : (q b q₁ q′ b′ : Store) (key from : ℕ) (r : BranchDropped) (cs all : List Call)
       → Dropping q key from r q₁ → all ≡ drop-calls r key from ++ cs → Runs q₁ b cs q′ b′ → Runs q b all q′ b′
 
 -- ---- one call
@@ -120,11 +120,11 @@ same-queue : {q q′ b : Store} {k : Books} → Holds q b k → Same (q .hashes)
 same-queue h e = record { queue = same-good e (h .queue); batch = h .batch; waits = same-held e ∙ h .waits; batched = h .batched }
 
 -- the checked answer, where what is lent is valid
-sure : {lent good bad : Type 0} → Checked lent good bad → lent → good
+sure : {lent good bad : Type 0} → HeldOrNot lent good bad → lent → good
 sure c v = ⊎-elim (λ x. x .1) (λ x. absurd (x .0 v)) c
 
 module _ {q b b′ : Store} {h : List ℕ} {key seq top ops : ℕ} {needs : List ℕ} {k : Books} (s : Holds q b k) where
-  pub push-holds : (r : Pushed) → Pushing b h key seq top ops needs r b′ → Holds q b′ (after-all (push-calls r (change h key seq top ops needs)) k)
+  pub push-holds : (r : Pushed) → Pushing b h key seq top ops needs r b′ → Holds q b′ (after-all (push-calls r (waitingChange h key seq top ops needs)) k)
   unfolding PushedTo after-all after
   push-holds Done p =
       let f = done-fine (b .hashes) (b .numbers) (b .count) h key seq needs (sym (sure (p .answer) (s .batch))) in
@@ -132,7 +132,7 @@ module _ {q b b′ : Store} {h : List ℕ} {key seq top ops : ℕ} {needs : List
         queue = s .queue;
         batch = pushed-valid (s .batch) f (p .memory);
         waits = s .waits;
-        batched = pushed-list (s .batch) f (p .memory) ∙ ap (λ (l : List Waiting). l ++ (change h key seq top ops needs ∷ [])) (s .batched);
+        batched = pushed-list (s .batch) f (p .memory) ∙ ap (λ (l : List Waiting). l ++ (waitingChange h key seq top ops needs ∷ [])) (s .batched);
       }
   push-holds NotValid p = same-batch s (p .memory)
   push-holds Malformed p = same-batch s (p .memory)
@@ -180,11 +180,11 @@ abbrev pub tabled : Store → Queue
 tabled q = queueOf (q .hashes) (q .numbers) (q .deps) (waiting (q .count))
 
 released-list : (gs : List ℕ) (n : ℕ) (q : Store) (w : List Waiting) → held q ≡ w
-    → changes (tabled q) (rest (knownIn gs n) (tabled q)) ≡ changes (of-list w) (rest (knownIn gs n) (of-list w))
+    → changes-at (tabled q) (rest (knownIn gs n) (tabled q)) ≡ changes-at (of-list w) (rest (knownIn gs n) (of-list w))
 released-list gs n q w e =
-    subst (λ (l : List Waiting). changes (tabled q) (rest (knownIn gs n) (tabled q)) ≡ changes (of-list l) (rest (knownIn gs n) (of-list l))) e
+    subst (λ (l : List Waiting). changes-at (tabled q) (rest (knownIn gs n) (tabled q)) ≡ changes-at (of-list l) (rest (knownIn gs n) (of-list l))) e
     (changes-alike (tabled q) (of-list (held q)) (list-alike (q .hashes) (q .numbers) (q .deps) (waiting (q .count))) (rest (knownIn gs n) (tabled q)) (low-rest (knownIn gs n) (tabled q))
-    ∙ ap (changes (of-list (held q))) (rest-alike (tabled q) (of-list (held q)) (list-alike (q .hashes) (q .numbers) (q .deps) (waiting (q .count))) (knownIn gs n)))
+    ∙ ap (changes-at (of-list (held q))) (rest-alike (tabled q) (of-list (held q)) (list-alike (q .hashes) (q .numbers) (q .deps) (waiting (q .count))) (knownIn gs n)))
 
 pub release-holds : (gs : List ℕ) (n : ℕ) {q b q′ : Store} {th tn td th′ tn′ td′ : List ℕ} {k : Books} → Holds q b k → (r : Released) → Releasing gs n q th tn td r q′ th′ tn′ td′
     → Holds q′ b (after-all (release-calls r (knownIn gs n)) k)
@@ -218,28 +218,28 @@ module _ (gs : List ℕ) (n : ℕ) {q q′ : Store} {th tn td th′ tn′ td′ 
   unfolding ReleasedTo
   answered = p .memory .answer
 
-  ordered-list : changes (tabled q) (readyOf gs n (q .hashes) (q .numbers) (q .deps) (q .count)) ≡ changes (of-list (held q)) (order (knownIn gs n) (of-list (held q)))
+  ordered-list : changes-at (tabled q) (readyOf gs n (q .hashes) (q .numbers) (q .deps) (q .count)) ≡ changes-at (of-list (held q)) (order (knownIn gs n) (of-list (held q)))
   unfolding readyOf
   ordered-list =
       changes-alike (tabled q) (of-list (held q)) (list-alike (q .hashes) (q .numbers) (q .deps) (waiting (q .count))) (order (knownIn gs n) (tabled q)) (low-order (knownIn gs n) (tabled q))
-      ∙ ap (changes (of-list (held q))) (order-alike (tabled q) (of-list (held q)) (list-alike (q .hashes) (q .numbers) (q .deps) (waiting (q .count))) (knownIn gs n))
+      ∙ ap (changes-at (of-list (held q))) (order-alike (tabled q) (of-list (held q)) (list-alike (q .hashes) (q .numbers) (q .deps) (waiting (q .count))) (knownIn gs n))
 
   -- the answer tables hold what the paper's call adds to the released ones
-  pub release-gives : listOf th′ tn′ td′ m ≡ changes (of-list (held q)) (order (knownIn gs n) (of-list (held q)))
-  release-gives = ap (listOf th′ tn′ td′) (all-of .1) ∙ (given-list gs n v (roomy-rooms th tn td (length (readyOf gs n (q .hashes) (q .numbers) (q .deps) (q .count))) (all-of .0)) answered ∙ ordered-list)
+  pub release-gives : recordsOf th′ tn′ td′ m ≡ changes-at (of-list (held q)) (order (knownIn gs n) (of-list (held q)))
+  release-gives = ap (recordsOf th′ tn′ td′) (all-of .1) ∙ (given-list gs n v (roomy-rooms th tn td (length (readyOf gs n (q .hashes) (q .numbers) (q .deps) (q .count))) (all-of .0)) answered ∙ ordered-list)
 
   -- what a released change depends on is known, or is the hash of one released before it: the rule of adding
   pub release-in-order : (i : ℕ) → i < m → (d : List ℕ) → names d (recordAt th′ tn′ td′ i .deps) ≡ true → (knownIn gs n d ≡ true) ⊎ ((e : ℕ) × (e < i) × (hashAt th′ e ≡ d))
   release-in-order i l d x =
       given-in-order gs n v (roomy-rooms th tn td (length (readyOf gs n (q .hashes) (q .numbers) (q .deps) (q .count))) (all-of .0)) answered i (omega (arith, all-of .1)) d x
 
-dropped-list : (key from : ℕ) (q : Store) (w : List Waiting) → held q ≡ w → changes (tabled q) (kept (tabled q) key from) ≡ changes (of-list w) (kept (of-list w) key from)
+dropped-list : (key from : ℕ) (q : Store) (w : List Waiting) → held q ≡ w → changes-at (tabled q) (kept (tabled q) key from) ≡ changes-at (of-list w) (kept (of-list w) key from)
 dropped-list key from q w e =
-    subst (λ (l : List Waiting). changes (tabled q) (kept (tabled q) key from) ≡ changes (of-list l) (kept (of-list l) key from)) e
+    subst (λ (l : List Waiting). changes-at (tabled q) (kept (tabled q) key from) ≡ changes-at (of-list l) (kept (of-list l) key from)) e
     (changes-alike (tabled q) (of-list (held q)) (list-alike (q .hashes) (q .numbers) (q .deps) (waiting (q .count))) (kept (tabled q) key from) (low-kept (tabled q) key from)
-    ∙ ap (changes (of-list (held q))) (kept-alike (tabled q) (of-list (held q)) (list-alike (q .hashes) (q .numbers) (q .deps) (waiting (q .count))) key from))
+    ∙ ap (changes-at (of-list (held q))) (kept-alike (tabled q) (of-list (held q)) (list-alike (q .hashes) (q .numbers) (q .deps) (waiting (q .count))) key from))
 
-pub drop-holds : (key from : ℕ) {q b q′ : Store} {k : Books} → Holds q b k → (r : Removed) → Dropping q key from r q′ → Holds q′ b (after-all (drop-calls r key from) k)
+pub drop-holds : (key from : ℕ) {q b q′ : Store} {k : Books} → Holds q b k → (r : BranchDropped) → Dropping q key from r q′ → Holds q′ b (after-all (drop-calls r key from) k)
 unfolding RemovedTo keptOf kept after-all after after-drop
 drop-holds key from {q} {k = k} s Gone p =
     record {
@@ -262,7 +262,7 @@ pub runs-hold : {q b q′ b′ : Store} {cs : List Call} → Runs q b cs q′ b�
 unfolding after-all
 runs-hold (stop q b) k s = s
 runs-hold (pushing q b b₁ q′ b′ h key seq top ops needs r cs all p e rs) k s =
-    rw (e, after-join (push-calls r (change h key seq top ops needs)) cs k) (runs-hold rs (after-all (push-calls r (change h key seq top ops needs)) k) (push-holds s r p))
+    rw (e, after-join (push-calls r (waitingChange h key seq top ops needs)) cs k) (runs-hold rs (after-all (push-calls r (waitingChange h key seq top ops needs)) k) (push-holds s r p))
 runs-hold (handing q b q₁ q′ b′ bcs′ r cs all p e rs) k s =
     rw (e, after-join (hand-calls r) cs k) (runs-hold rs (after-all (hand-calls r) k) (hand-holds s r p))
 runs-hold (releasing q b q₁ q′ b′ gs n th tn td th′ tn′ td′ r cs all p e rs) k s =
@@ -271,8 +271,8 @@ runs-hold (dropping q b q₁ q′ b′ key from r cs all p e rs) k s =
     rw (e, after-join (drop-calls r key from) cs k) (runs-hold rs (after-all (drop-calls r key from) k) (drop-holds key from s r p))
 
 -- what opening leaves holds nothing
-pub opened-holds : (q b : Store) (qcs bcs : List ℕ) → Laid (q .hashes) (q .numbers) (q .deps) qcs → q .count ≡ set qcs 0 0
-    → Laid (b .hashes) (b .numbers) (b .deps) bcs → b .count ≡ set bcs 0 0 → Holds q b fresh
+pub opened-holds : (q b : Store) (qcs bcs : List ℕ) → StoreLaid (q .hashes) (q .numbers) (q .deps) qcs → q .count ≡ set qcs 0 0
+    → StoreLaid (b .hashes) (b .numbers) (b .deps) bcs → b .count ≡ set bcs 0 0 → Holds q b fresh
 opened-holds q b qcs bcs lq eq lb eb =
     record {
       queue = opened-valid lq eq;

@@ -13,7 +13,7 @@ use Rattle.paper.specs.Lists.{mem, each-below}
 use Rattle.paper.specs.Queue.{Waiting, Queue, of-list, order, rest, dropped, kept}
 use Rattle.paper.proofs.Ready.{listed-low}
 use Rattle.ready.specs.Tables.{queueOf, recordAt}
-use Rattle.queue_books.specs.View.{listOf}
+use Rattle.queue_books.specs.View.{recordsOf}
 use Rattle.queue_books.specs.Alike.{Alike, Low, low-pick}
 
 each-length : (f : ℕ → Waiting) (n : ℕ) → length (each-below f n) ≡ n
@@ -29,8 +29,8 @@ each-at f (suc n) i d l =
     (λ b. List·getD-append (each-below f n) (f n ∷ []) d i (omega (arith, each-length f n)) ∙ each-at f n i d b)
     (eq-or-lt-of-le {n = i} {m = n} (omega arith))
 
-pub list-alike : (hs ns ds : List ℕ) (n : ℕ) → Alike (queueOf hs ns ds n) (of-list (listOf hs ns ds n))
-unfolding of-list listOf
+pub list-alike : (hs ns ds : List ℕ) (n : ℕ) → Alike (queueOf hs ns ds n) (of-list (recordsOf hs ns ds n))
+unfolding of-list recordsOf
 list-alike hs ns ds n = record { sizes = sym (each-length (recordAt hs ns ds) n); same = λ i l. sym (each-at (recordAt hs ns ds) n i _ l) }
 
 pub low-order : (known : List ℕ → Bool) (q : Queue) → Low (q .size) (order known q)

@@ -13,7 +13,7 @@ use lib.ListN.{length, getD, set, length-set, take, drop, length-take}
 use lib.Seq.{getD-set-same, getD-take, take-length}
 use borrow.Author.Tests.{ltb-false}
 use Rattle.paper.specs.Lists.{names, each-below, pick, tally, hashAt, hashes-of, hashes-from}
-use Rattle.paper.specs.Queue.{Waiting, Queue, Distinct, order, changes}
+use Rattle.paper.specs.Queue.{Waiting, Queue, Distinct, order, changes-at}
 use Rattle.paper.proofs.Bools.{by-bool, not-both, or-left, or-right, below-or-not, mem-getD}
 use Rattle.paper.proofs.Ready.{listed-low, found-earlier, among-place}
 use Rattle.paper.proofs.Count.{pick-length, tally-most}
@@ -21,16 +21,16 @@ use Rattle.list_laws.specs.Over.{over, part}
 use Rattle.ready.specs.Tables.{depCount, recordAt, queueOf, knownIn}
 use Rattle.records.specs.Records.{Rooms, Few, Source, Filled, Copied, SameLengths, placeOf}
 use Rattle.records.specs.RecordLaws.{rooms-less, source-list, source-front}
-use Rattle.waiting.specs.Valid.{room, waiting, Laid, Sized, Valid, hasActorSeq}
+use Rattle.waiting.specs.Valid.{room, waiting, StoreLaid, Sized, StoreValid, hasActorSeq}
 use Rattle.waiting.specs.ValidLaws.{sized-rooms, valid-rooms, known-none, actor-hit, few-next, roomy-rooms}
 use Rattle.waiting.specs.Taken.{TakenOut}
-use Rattle.batch.specs.Push.{judged, Placed}
+use Rattle.batch.specs.Push.{pushJudged, StandsLast}
 use Rattle.batch.specs.PushLaws.{Fine, done-fine, whole-part}
 use Rattle.batch.specs.declared.Pushed.{Pushed}
 use Rattle.queue.specs.Hand.{clashAt, anyClash, handedAs, Appended}
 use Rattle.queue.specs.HandLaws.{clash-hit}
 use Rattle.release.specs.Release.{readyOf}
-use Rattle.queue_books.specs.View.{listOf}
+use Rattle.queue_books.specs.View.{recordsOf}
 use Rattle.queue_books.specs.Stands.{Whole, Stands, filled-stands, copied-here, copied-before, count-here, count-before, lengths-kept, distinct-places, pick-once, pick-low, distinct-join, each-ext, each-add, each-map}
 
 -- ---- the count
@@ -39,8 +39,8 @@ count-set : (cs : List ℕ) (n : ℕ) → length cs ≡ 1 → waiting (set cs 0 
 count-set cs n e = getD-set-same cs 0 n 0 (omega arith)
 
 -- n records are counted, of which each has at most 32 dependencies, and which are distinct
-valid-after : {hs ns ds cs hs′ ns′ ds′ cs′ : List ℕ} (n : ℕ) → Valid hs ns ds cs → SameLengths hs ns ds hs′ ns′ ds′ → cs′ ≡ set cs 0 n → n ≤ room hs → Few ns′ n
-    → Distinct (queueOf hs′ ns′ ds′ n) → Valid hs′ ns′ ds′ cs′
+valid-after : {hs ns ds cs hs′ ns′ ds′ cs′ : List ℕ} (n : ℕ) → StoreValid hs ns ds cs → SameLengths hs ns ds hs′ ns′ ds′ → cs′ ≡ set cs 0 n → n ≤ room hs → Few ns′ n
+    → Distinct (queueOf hs′ ns′ ds′ n) → StoreValid hs′ ns′ ds′ cs′
 valid-after {hs} {ns} {ds} {cs} {hs′} {ns′} {ds′} {cs′} n v same e most few distinct =
     let l = v .sized .laid in
     let w : waiting cs′ ≡ n = ap (λ (x : List ℕ). getD x 0 0) e ∙ count-set cs n (l .one-count) in
@@ -73,7 +73,7 @@ nothing-distinct hs ns ds = record { hashes = λ i j a b e. absurd (omega arith)
 -- ---- opening, and emptying
 
 -- tables of lengths that agree, with the count 0, are valid
-pub opened-valid : {hs ns ds cs cs′ : List ℕ} → Laid hs ns ds cs → cs′ ≡ set cs 0 0 → Valid hs ns ds cs′
+pub opened-valid : {hs ns ds cs cs′ : List ℕ} → StoreLaid hs ns ds cs → cs′ ≡ set cs 0 0 → StoreValid hs ns ds cs′
 opened-valid {hs} {ns} {ds} {cs} {cs′} l e =
     let w : waiting cs′ ≡ 0 = ap (λ (x : List ℕ). getD x 0 0) e ∙ count-set cs 0 (l .one-count) in
     record {
@@ -93,17 +93,17 @@ opened-valid {hs} {ns} {ds} {cs} {cs′} l e =
       distinct = rw w (nothing-distinct hs ns ds);
     }
 
-pub opened-list : (hs ns ds cs : List ℕ) {cs′ : List ℕ} → length cs ≡ 1 → cs′ ≡ set cs 0 0 → listOf hs ns ds (waiting cs′) ≡ []
-unfolding listOf each-below
+pub opened-list : (hs ns ds cs : List ℕ) {cs′ : List ℕ} → length cs ≡ 1 → cs′ ≡ set cs 0 0 → recordsOf hs ns ds (waiting cs′) ≡ []
+unfolding recordsOf each-below
 opened-list hs ns ds cs l e = rw (e, count-set cs 0 l)
 
 -- ---- pushing
 
 -- the change that is pushed
-abbrev pub change : List ℕ → ℕ → ℕ → ℕ → ℕ → List ℕ → Waiting
-change h key seq top ops needs = record { hash = h; key = key; seq = seq; max-op = top; ops = ops; deps = hashes-of needs }
+abbrev pub waitingChange : List ℕ → ℕ → ℕ → ℕ → ℕ → List ℕ → Waiting
+waitingChange h key seq top ops needs = record { hash = h; key = key; seq = seq; max-op = top; ops = ops; deps = hashes-of needs }
 
-module _ {hs ns ds cs h : List ℕ} {key seq top ops : ℕ} {needs hs′ ns′ ds′ cs′ : List ℕ} (v : Valid hs ns ds cs) (f : Fine hs ns cs h key seq needs) (p : Placed hs ns ds cs h key seq top ops needs hs′ ns′ ds′ cs′) where
+module _ {hs ns ds cs h : List ℕ} {key seq top ops : ℕ} {needs hs′ ns′ ds′ cs′ : List ℕ} (v : StoreValid hs ns ds cs) (f : Fine hs ns cs h key seq needs) (p : StandsLast hs ns ds cs h key seq top ops needs hs′ ns′ ds′ cs′) where
   -- it is a record of its own, copied
   src : Whole h (key ∷ seq ∷ top ∷ ops ∷ (length needs / 32) ∷ []) needs 0
   src = record { hash = omega (arith, f .hash-whole); deps = omega arith; few = f .few }
@@ -123,11 +123,11 @@ module _ {hs ns ds cs h : List ℕ} {key seq top ops : ℕ} {needs hs′ ns′ d
   unfolding hashAt
   its-hash = ap (λ (x : ℕ). take x h) (sym (f .hash-whole)) ∙ take-length h
 
-  its-record : recordAt h (key ∷ seq ∷ top ∷ ops ∷ (length needs / 32) ∷ []) needs 0 ≡ change h key seq top ops needs
+  its-record : recordAt h (key ∷ seq ∷ top ∷ ops ∷ (length needs / 32) ∷ []) needs 0 ≡ waitingChange h key seq top ops needs
   unfolding hashes-of
   its-record = rw its-hash
 
-  here : recordAt hs′ ns′ ds′ (waiting cs) ≡ change h key seq top ops needs
+  here : recordAt hs′ ns′ ds′ (waiting cs) ≡ waitingChange h key seq top ops needs
   here = copied-here src spot copied ∙ its-record
 
   before : (j : ℕ) → j < waiting cs → recordAt hs′ ns′ ds′ j ≡ recordAt hs ns ds j
@@ -136,17 +136,17 @@ module _ {hs ns ds cs h : List ℕ} {key seq top ops : ℕ} {needs hs′ ns′ d
   few-after : Few ns′ (waiting cs + 1)
   few-after = few-next (record { each = λ i l. omega (arith, count-before src spot copied i l, v .few .each i l) }) (omega (arith, count-here src spot copied, f .few))
 
-  pub pushed-valid : Valid hs′ ns′ ds′ cs′
+  pub pushed-valid : StoreValid hs′ ns′ ds′ cs′
   pushed-valid =
       valid-after (waiting cs + 1) v (lengths-kept src spot copied) (p .count) (omega (arith, f .space)) few-after
-      (distinct-join (waiting cs) 1 (recordAt hs ns ds) (λ i. change h key seq top ops needs) (recordAt hs′ ns′ ds′) (v .distinct)
+      (distinct-join (waiting cs) 1 (recordAt hs ns ds) (λ i. waitingChange h key seq top ops needs) (recordAt hs′ ns′ ds′) (v .distinct)
       (record { hashes = λ i j a b e. omega arith; actors = λ i j a b e s. omega arith })
       before (λ j l. let z : waiting cs + j ≡ waiting cs = omega arith in rw z here)
       (λ i j a b e. known-none hs (waiting cs) h (f .new-hash) i a e)
       (λ i j a b e s. not-both (actor-hit ns key seq (waiting cs) i a e s) (f .new-actor)))
 
-  pub pushed-list : listOf hs′ ns′ ds′ (waiting cs′) ≡ listOf hs ns ds (waiting cs) ++ (change h key seq top ops needs ∷ [])
-  unfolding listOf each-below
+  pub pushed-list : recordsOf hs′ ns′ ds′ (waiting cs′) ≡ recordsOf hs ns ds (waiting cs) ++ (waitingChange h key seq top ops needs ∷ [])
+  unfolding recordsOf each-below
   pushed-list =
       let w : waiting cs′ ≡ suc (waiting cs) = ap (λ (x : List ℕ). getD x 0 0) (p .count) ∙ (count-set cs (waiting cs + 1) (v .sized .laid .one-count) ∙ add-one (waiting cs)) in
       ap (each-below (recordAt hs′ ns′ ds′)) w
@@ -155,7 +155,7 @@ module _ {hs ns ds cs h : List ℕ} {key seq top ops : ℕ} {needs hs′ ns′ d
 
 -- ---- handing over
 
-module _ {hs ns ds cs bhs bns bds bcs hs′ ns′ ds′ cs′ bcs′ : List ℕ} (v : Valid hs ns ds cs) (b : Valid bhs bns bds bcs) (no-clash : anyClash hs ns (waiting cs) bhs bns (waiting bcs) ≡ false)
+module _ {hs ns ds cs bhs bns bds bcs hs′ ns′ ds′ cs′ bcs′ : List ℕ} (v : StoreValid hs ns ds cs) (b : StoreValid bhs bns bds bcs) (no-clash : anyClash hs ns (waiting cs) bhs bns (waiting bcs) ≡ false)
     (fits : waiting cs + waiting bcs ≤ room hs) (a : Appended hs ns ds cs bhs bns bds bcs hs′ ns′ ds′ cs′ bcs′) where
   joined : Stands bhs bns bds (λ i. i) (waiting cs) (waiting bcs) hs ns ds hs′ ns′ ds′
   joined = filled-stands (source-front (valid-rooms b) (b .few)) (rooms-less (waiting cs + waiting bcs) (sized-rooms (v .sized)) fits) (a .tables)
@@ -195,13 +195,13 @@ module _ {hs ns ds cs bhs bns bds bcs hs′ ns′ ds′ cs′ bcs′ : List ℕ}
       (or-right (knownIn hs (waiting cs) (hashAt bhs j)) (hasActorSeq ns (waiting cs) (getD bns (5 * j) 0) (getD bns (5 * j + 1) 0))
       (actor-hit ns (getD bns (5 * j) 0) (getD bns (5 * j + 1) 0) (waiting cs) i l e s))) no-clash
 
-  pub handed-valid : Valid hs′ ns′ ds′ cs′
+  pub handed-valid : StoreValid hs′ ns′ ds′ cs′
   handed-valid =
       valid-after (waiting cs + waiting bcs) v (joined .lengths) (a .count) fits few-joined
       (distinct-join (waiting cs) (waiting bcs) (recordAt hs ns ds) (recordAt bhs bns bds) (recordAt hs′ ns′ ds′) (v .distinct) (b .distinct) old (joined .here) hash-apart actor-apart)
 
-  pub handed-list : listOf hs′ ns′ ds′ (waiting cs′) ≡ listOf hs ns ds (waiting cs) ++ listOf bhs bns bds (waiting bcs)
-  unfolding listOf
+  pub handed-list : recordsOf hs′ ns′ ds′ (waiting cs′) ≡ recordsOf hs ns ds (waiting cs) ++ recordsOf bhs bns bds (waiting bcs)
+  unfolding recordsOf
   handed-list =
       let w : waiting cs′ ≡ waiting cs + waiting bcs = ap (λ (x : List ℕ). getD x 0 0) (a .count) ∙ count-set cs (waiting cs + waiting bcs) (v .sized .laid .one-count) in
       ap (each-below (recordAt hs′ ns′ ds′)) w
@@ -210,15 +210,15 @@ module _ {hs ns ds cs bhs bns bds bcs hs′ ns′ ds′ cs′ bcs′ : List ℕ}
       ∙ ap (λ (l : List Waiting). each-below (recordAt hs ns ds) (waiting cs) ++ l) (each-ext (λ i. recordAt hs′ ns′ ds′ (waiting cs + i)) (recordAt bhs bns bds) (waiting bcs) (joined .here))))
 
   -- the batch is empty, and valid
-  pub emptied-valid : Valid bhs bns bds bcs′
+  pub emptied-valid : StoreValid bhs bns bds bcs′
   emptied-valid = opened-valid (b .sized .laid) (a .emptied)
 
-  pub emptied-list : listOf bhs bns bds (waiting bcs′) ≡ []
+  pub emptied-list : recordsOf bhs bns bds (waiting bcs′) ≡ []
   emptied-list = opened-list bhs bns bds bcs (b .sized .laid .one-count) (a .emptied)
 
 -- ---- releasing and dropping: what passes a test is kept
 
-module _ {hs ns ds cs hs′ ns′ ds′ cs′ : List ℕ} (v : Valid hs ns ds cs) (p : ℕ → Bool) (t : TakenOut hs ns ds cs (pick p (waiting cs)) hs′ ns′ ds′ cs′) where
+module _ {hs ns ds cs hs′ ns′ ds′ cs′ : List ℕ} (v : StoreValid hs ns ds cs) (p : ℕ → Bool) (t : TakenOut hs ns ds cs (pick p (waiting cs)) hs′ ns′ ds′ cs′) where
   keep-most : length (pick p (waiting cs)) ≤ waiting cs
   keep-most = omega (arith, pick-length p (waiting cs), tally-most p (waiting cs))
 
@@ -238,13 +238,13 @@ module _ {hs ns ds cs hs′ ns′ ds′ cs′ : List ℕ} (v : Valid hs ns ds cs
             omega (arith, z, v .few .each (getD (pick p (waiting cs)) i 0) (pick-low p (waiting cs) i l));
       }
 
-  pub taken-valid : Valid hs′ ns′ ds′ cs′
+  pub taken-valid : StoreValid hs′ ns′ ds′ cs′
   taken-valid =
       valid-after (length (pick p (waiting cs))) v (closed .lengths) (t .count) (omega (arith, keep-most, v .sized .within)) few-kept
       (distinct-places (queueOf hs ns ds (waiting cs)) (placeOf (pick p (waiting cs))) (length (pick p (waiting cs))) (recordAt hs′ ns′ ds′) (v .distinct) (pick-low p (waiting cs)) (pick-once p (waiting cs)) kept-at)
 
-  pub taken-list : listOf hs′ ns′ ds′ (waiting cs′) ≡ changes (queueOf hs ns ds (waiting cs)) (pick p (waiting cs))
-  unfolding listOf changes
+  pub taken-list : recordsOf hs′ ns′ ds′ (waiting cs′) ≡ changes-at (queueOf hs ns ds (waiting cs)) (pick p (waiting cs))
+  unfolding recordsOf changes-at
   taken-list =
       let w : waiting cs′ ≡ length (pick p (waiting cs)) = ap (λ (x : List ℕ). getD x 0 0) (t .count) ∙ count-set cs (length (pick p (waiting cs))) (v .sized .laid .one-count) in
       ap (each-below (recordAt hs′ ns′ ds′)) w
@@ -253,7 +253,7 @@ module _ {hs ns ds cs hs′ ns′ ds′ cs′ : List ℕ} (v : Valid hs ns ds cs
 
 -- ---- what a release gives out
 
-module _ (gs : List ℕ) (k : ℕ) {hs ns ds cs th tn td th′ tn′ td′ : List ℕ} (v : Valid hs ns ds cs)
+module _ (gs : List ℕ) (k : ℕ) {hs ns ds cs th tn td th′ tn′ td′ : List ℕ} (v : StoreValid hs ns ds cs)
     (space : Rooms th tn td (length (readyOf gs k hs ns ds cs)))
     (a : Filled hs ns ds (placeOf (readyOf gs k hs ns ds cs)) 0 (length (readyOf gs k hs ns ds cs)) th tn td th′ tn′ td′) where
   ready-low : (i : ℕ) → i < length (readyOf gs k hs ns ds cs) → getD (readyOf gs k hs ns ds cs) i 0 < waiting cs
@@ -269,8 +269,8 @@ module _ (gs : List ℕ) (k : ℕ) {hs ns ds cs th tn td th′ tn′ td′ : Lis
   given-at i l = subst (λ (x : ℕ). recordAt th′ tn′ td′ x ≡ recordAt hs ns ds (getD (readyOf gs k hs ns ds cs) i 0)) (zero-add i) (out .here i l)
 
   -- the ready ones, in ready order
-  pub given-list : listOf th′ tn′ td′ (length (readyOf gs k hs ns ds cs)) ≡ changes (queueOf hs ns ds (waiting cs)) (readyOf gs k hs ns ds cs)
-  unfolding listOf changes
+  pub given-list : recordsOf th′ tn′ td′ (length (readyOf gs k hs ns ds cs)) ≡ changes-at (queueOf hs ns ds (waiting cs)) (readyOf gs k hs ns ds cs)
+  unfolding recordsOf changes-at
   given-list =
       each-ext (recordAt th′ tn′ td′) (λ i. recordAt hs ns ds (getD (readyOf gs k hs ns ds cs) i 0)) (length (readyOf gs k hs ns ds cs)) given-at
       ∙ each-map (recordAt hs ns ds) (readyOf gs k hs ns ds cs)

@@ -14,8 +14,8 @@ use Rattle.ready.specs.Tables.{depCount, recordAt}
 use Rattle.records.specs.Records.{fiveAt, depBytes}
 
 -- the first n records as the paper's list
-unfoldable pub listOf : List ℕ → List ℕ → List ℕ → ℕ → List Waiting
-listOf hs ns ds n = each-below (recordAt hs ns ds) n
+unfoldable pub recordsOf : List ℕ → List ℕ → List ℕ → ℕ → List Waiting
+recordsOf hs ns ds n = each-below (recordAt hs ns ds) n
 
 -- ---- parts of what is written over
 

@@ -1,10 +1,10 @@
 // Replays recorded runs of a batch and a queue: standard input has the commands, one a line, and the answers go to standard output.
 // A hash is H and one digit, which stands for 32 equal bytes; keys and sequences are one digit. Tables of eight records.
 use batch::Pushed;
-use branch::Removed;
-use queue::Asked;
+use branch::BranchDropped;
 use queue::Handed;
-use queue::Listed;
+use queue::QueueAnswer;
+use queue::QueueListed;
 use release::Released;
 ghost use Prim.Native.Nat.{_+_, _*_, _≤_, _<_};
 ghost use lib.ListN.{length};
@@ -104,12 +104,12 @@ fn say_pushed(r: Pushed) {
     }
 }
 
-fn say_asked(r: Asked) {
+fn say_asked(r: QueueAnswer) {
     match r {
-        Asked::Yes => {
+        QueueAnswer::Yes => {
             io::write_all(1, b"yes\n");
         }
-        Asked::No => {
+        QueueAnswer::No => {
             io::write_all(1, b"no\n");
         }
         _ => {
@@ -175,7 +175,7 @@ fn list_line(h: &[u8], n: &[u64], d: &[u8], c: &[u32]) {
     let mut tn = [0u64; 40];
     let mut td = [0u8; 8192];
     let r = queue::iter(h, n, d, c, &mut th, &mut tn, &mut td);
-    let Listed::All(m) = r else {
+    let QueueListed::All(m) = r else {
         return;
     };
     if m <= 256 {
@@ -227,10 +227,10 @@ fn drop_line(s: &[u8], at: usize, h: &mut [u8], n: &mut [u64], d: &mut [u8], c: 
     let from = wide(digit_at(s, at + 8));
     let r = branch::remove_actor_branch_from(h, n, d, c, key, from);
     match r {
-        Removed::Done => {
+        BranchDropped::Done => {
             io::write_all(1, b"0\n");
         }
-        Removed::NotValid => {
+        BranchDropped::NotValid => {
             io::write_all(1, b"refused\n");
         }
     }

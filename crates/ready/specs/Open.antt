@@ -8,7 +8,7 @@ use lib.ListN.{length, take, getD}
 use Rattle.paper.specs.Lists.{sameList, count, pick, tally}
 use Rattle.paper.specs.Queue.{Queue, among}
 use Rattle.paper.specs.Lists.{hashAt, hashes-from}
-use Rattle.ready.specs.Tables.{depCount, unknownIn, DepsHeld}
+use Rattle.ready.specs.Tables.{depCount, noneOf, DepsHeld}
 
 -- the dependencies of i that are neither known nor the hash of one of the listed
 unfoldable pub unmet : (List ℕ → Bool) → Queue → List ℕ → ℕ → ℕ
@@ -16,7 +16,7 @@ unmet known q l i = count (λ d. not (known d || among q l d)) (q .at i .deps)
 
 -- the dependencies of i that the graph does not know
 unfoldable pub unknownOf : List ℕ → ℕ → List ℕ → List ℕ → ℕ → ℕ
-unknownOf gs n ns ds i = count (unknownIn gs n) (hashes-from ds (depCount ns i) (32 * i))
+unknownOf gs n ns ds i = count (noneOf gs n) (hashes-from ds (depCount ns i) (32 * i))
 
 -- the dependencies of i that are the hash of k
 unfoldable pub hitsOf : List ℕ → List ℕ → List ℕ → ℕ → ℕ → ℕ

@@ -16,7 +16,7 @@ use Rattle.paper.proofs.Bools.{by-bool, same-bool, pick-ext, mem-getD}
 use Rattle.paper.proofs.Count.{pick-length}
 use Rattle.paper.proofs.Ready.{Listed, listed-start, listed-most, listed-in, listed-new, listed-next, order-turn, order-stop}
 use Rattle.paper.specs.Lists.{hashAt, hashes-from}
-use Rattle.ready.specs.Tables.{depCount, queueOf, knownIn, unknownIn, DepsHeld}
+use Rattle.ready.specs.Tables.{depCount, queueOf, knownIn, noneOf, DepsHeld}
 use Rattle.ready.specs.Open.{unmet, unknownOf, hitsOf, lastHit, freedBy, Begun, Passed, Freeable}
 use Rattle.ready.specs.OpenLaws.{met-unmet, unmet-start, unmet-known, unmet-hit}
 
@@ -181,7 +181,7 @@ module _ (known : List ℕ → Bool) (q : Queue) where
             }
 
 unknown-is : (gs : List ℕ) (n : ℕ) (hs ns ds : List ℕ) (m i : ℕ) → unknownOf gs n ns ds i ≡ unmet (knownIn gs n) (queueOf hs ns ds m) [] i
-unfolding unknownOf unknownIn
+unfolding unknownOf noneOf
 unknown-is gs n hs ns ds m i = sym (unmet-start (knownIn gs n) (queueOf hs ns ds m) i)
 
 -- ---- contracts

@@ -40,8 +40,8 @@ unfoldable pub knownIn : List ℕ → ℕ → List ℕ → Bool
 knownIn gs m h = isAt (findHash gs m h)
 
 -- h is none of them
-unfoldable pub unknownIn : List ℕ → ℕ → List ℕ → Bool
-unknownIn gs m h = not (knownIn gs m h)
+unfoldable pub noneOf : List ℕ → ℕ → List ℕ → Bool
+noneOf gs m h = not (knownIn gs m h)
 
 -- numbers and dependencies have room for n records, of at most 32 dependencies each
 pub record DepsHeld (ns ds : List ℕ) (n : ℕ) : Type 0 where

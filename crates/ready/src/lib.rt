@@ -8,7 +8,7 @@ ghost use lib.Dec.{eqb};
 ghost use lib.ListN.{length, getD, take};
 ghost use Rattle.paper.specs.Lists.{sameList, count, tally};
 ghost use Rattle.paper.specs.Lists.{hashAt, hashes-from};
-ghost use Rattle.ready.specs.Tables.{knownIn, unknownIn, queueOf, DepsHeld};
+ghost use Rattle.ready.specs.Tables.{knownIn, noneOf, queueOf, DepsHeld};
 ghost use Rattle.ready.specs.Open.{unknownOf, hitsOf, lastHit, freedBy, Begun, Passed, Freeable};
 ghost use Rattle.ready.specs.Ordering.{Askable, Turnable, Turned, Ordered};
 
@@ -33,7 +33,7 @@ pub fn is_known(graph: &[u8], n: usize, hash: &[u8]) -> bool
 // How many of the m hashes of `deps` from hash `first` on are none of the graph's first n.
 fn count_unknown(graph: &[u8], n: usize, deps: &[u8], first: usize, m: usize) -> u32
     requires { ⌜ (32 * n ≤ length (now graph)) × (32 * (first + m) ≤ length (now deps)) × (m ≤ 32) ⌝ }
-    ensures { λ r. ⌜ r ≡ count (unknownIn (now (graph .entry)) n) (hashes-from (now (deps .entry)) m first) ⌝ }
+    ensures { λ r. ⌜ r ≡ count (noneOf (now (graph .entry)) n) (hashes-from (now (deps .entry)) m first) ⌝ }
 {
     let mut total: u32 = 0;
     let mut j = 0;

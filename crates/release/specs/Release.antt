@@ -8,16 +8,16 @@ use Rattle.paper.specs.Numbers.{number, done, not-valid, short-buffer}
 use Rattle.paper.specs.Queue.{order, rest}
 use Rattle.ready.specs.Tables.{queueOf, knownIn}
 use Rattle.records.specs.Records.{Filled, placeOf}
-use Rattle.waiting.specs.Valid.{waiting, Valid, isRoomy, Same}
+use Rattle.waiting.specs.Valid.{waiting, StoreValid, isRoomy, Same}
 use Rattle.waiting.specs.Taken.{TakenOut}
 use Rattle.release.specs.declared.Released.{Released}
 use Rattle.release.specs.declared.Released.the-variants.{All, Short, NotValid}
 
 -- the paper's numbers
-abbrev pub numberOf : Released → ℕ
-numberOf (All r) = number done
-numberOf Short = number short-buffer
-numberOf NotValid = number not-valid
+abbrev pub releasedNumber : Released → ℕ
+releasedNumber (All r) = number done
+releasedNumber Short = number short-buffer
+releasedNumber NotValid = number not-valid
 
 -- the positions of the ready ones in ready order, and of the rest
 unfoldable pub readyOf : List ℕ → ℕ → List ℕ → List ℕ → List ℕ → List ℕ → List ℕ
@@ -51,4 +51,4 @@ ReleasedTo NotValid gs k hs ns ds cs th tn td hs′ ns′ ds′ cs′ th′ tn�
 -- what is lent for a release is valid: the queue, and a table of hashes that has the k known ones
 pub record Lent (gs : List ℕ) (k : ℕ) (hs ns ds cs : List ℕ) : Type 0 where
   pub known : k ≤ length gs / 32
-  pub queue : Valid hs ns ds cs
+  pub queue : StoreValid hs ns ds cs

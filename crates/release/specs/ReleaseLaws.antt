@@ -17,7 +17,7 @@ use Rattle.ready.specs.Tables.{queueOf, knownIn, DepsHeld}
 use Rattle.ready.specs.Ordering.{Askable, Ordered}
 use Rattle.records.specs.Records.{Rooms, Listable, Filled, placeOf, unlisted, Closed}
 use Rattle.records.specs.RecordLaws.{filled-same, rooms-less}
-use Rattle.waiting.specs.Valid.{waiting, Valid, isRoomy}
+use Rattle.waiting.specs.Valid.{waiting, StoreValid, isRoomy}
 use Rattle.waiting.specs.ValidLaws.{valid-rooms, valid-small}
 use Rattle.waiting.specs.Taken.{TakenOut}
 use Rattle.release.specs.Release.{readyOf, restOf, releasedAs, GivenOut}
@@ -34,7 +34,7 @@ module _ (l th tn td : List ℕ) (r : ℕ) (e : r ≡ length l) where
   unfolding releasedAs
   released-short f = rw (← e, f)
 
-pub valid-askable : {hs ns ds cs : List ℕ} (gs : List ℕ) (k : ℕ) → 32 * k ≤ length gs → Valid hs ns ds cs → Askable gs k hs ns ds (waiting cs)
+pub valid-askable : {hs ns ds cs : List ℕ} (gs : List ℕ) (k : ℕ) → 32 * k ≤ length gs → StoreValid hs ns ds cs → Askable gs k hs ns ds (waiting cs)
 valid-askable gs k g v =
     let r = valid-rooms v in
     record {
@@ -64,7 +64,7 @@ module _ {gs : List ℕ} {k : ℕ} {hs ns ds list₀ : List ℕ} {r : ℕ} {list
   unfolding readyOf
   low p l = listed-low (knownIn gs k) (queueOf hs ns ds (waiting cs)) (placeOf (readyOf gs k hs ns ds cs) p) (mem-getD (readyOf gs k hs ns ds cs) p l)
 
-  pub ready-listable : Valid hs ns ds cs → waiting cs ≤ length list → Listable hs ns ds (waiting cs) list r
+  pub ready-listable : StoreValid hs ns ds cs → waiting cs ≤ length list → Listable hs ns ds (waiting cs) list r
   ready-listable v room =
       record {
         rooms = valid-rooms v;

@@ -9,7 +9,7 @@ ghost use Prim.Native.Nat.{ℕ, _+_, _*_, _≤_, _<_};
 ghost use lib.ListN.{length, getD};
 ghost use Rattle.paper.specs.Lists.{pick};
 ghost use Rattle.records.specs.Records.{Rooms, Listable, Filled, placeOf, unlisted};
-ghost use Rattle.waiting.specs.Valid.{Valid, Checked, waiting};
+ghost use Rattle.waiting.specs.Valid.{StoreValid, HeldOrNot, waiting};
 ghost use Rattle.waiting.specs.Taken.{TakenOut};
 ghost use Rattle.release.specs.Release.{Lent, readyOf, releasedAs, ReleasedTo};
 
@@ -32,7 +32,7 @@ fn give_out(
     tnumbers: &mut [u64],
     tdeps: &mut [u8],
 )
-    requires { ⌜ Valid (now hashes) (now numbers) (now deps) (now count) ⌝ }
+    requires { ⌜ StoreValid (now hashes) (now numbers) (now deps) (now count) ⌝ }
     requires { ⌜ Listable (now hashes) (now numbers) (now deps) (waiting (now count)) (now order) r ⌝ }
     requires { ⌜ Rooms (now thashes) (now tnumbers) (now tdeps) r ⌝ }
     ensures { λ q. ⌜ Filled (now (hashes .entry)) (now (numbers .entry)) (now (deps .entry)) (placeOf (now (order .entry))) 0 r (now (thashes .entry)) (now (tnumbers .entry)) (now (tdeps .entry)) (now (thashes .exit)) (now (tnumbers .exit)) (now (tdeps .exit)) ⌝ }
@@ -57,7 +57,7 @@ pub fn release_ready(
     tdeps: &mut [u8],
 ) -> Released
     requires { ⌜ 32 * known ≤ length (now graph) ⌝ }
-    requires { ⌜ Valid (now hashes) (now numbers) (now deps) (now count) ⌝ }
+    requires { ⌜ StoreValid (now hashes) (now numbers) (now deps) (now count) ⌝ }
     ensures { λ r. ⌜ r ≡ releasedAs (readyOf (now (graph .entry)) known (now (hashes .entry)) (now (numbers .entry)) (now (deps .entry)) (now (count .entry))) (now (thashes .entry)) (now (tnumbers .entry)) (now (tdeps .entry)) ⌝ }
     ensures { λ r. ⌜ ReleasedTo r (now (graph .entry)) known (now (hashes .entry)) (now (numbers .entry)) (now (deps .entry)) (now (count .entry)) (now (thashes .entry)) (now (tnumbers .entry)) (now (tdeps .entry)) (now (hashes .exit)) (now (numbers .exit)) (now (deps .exit)) (now (count .exit)) (now (thashes .exit)) (now (tnumbers .exit)) (now (tdeps .exit)) ⌝ }
 {
@@ -94,7 +94,7 @@ pub fn release(
     tnumbers: &mut [u64],
     tdeps: &mut [u8],
 ) -> Released
-    ensures { λ r. ⌜ Checked (Lent (now (graph .entry)) known (now (hashes .entry)) (now (numbers .entry)) (now (deps .entry)) (now (count .entry))) (r ≡ releasedAs (readyOf (now (graph .entry)) known (now (hashes .entry)) (now (numbers .entry)) (now (deps .entry)) (now (count .entry))) (now (thashes .entry)) (now (tnumbers .entry)) (now (tdeps .entry))) (r ≡ Released.NotValid) ⌝ }
+    ensures { λ r. ⌜ HeldOrNot (Lent (now (graph .entry)) known (now (hashes .entry)) (now (numbers .entry)) (now (deps .entry)) (now (count .entry))) (r ≡ releasedAs (readyOf (now (graph .entry)) known (now (hashes .entry)) (now (numbers .entry)) (now (deps .entry)) (now (count .entry))) (now (thashes .entry)) (now (tnumbers .entry)) (now (tdeps .entry))) (r ≡ Released.NotValid) ⌝ }
     ensures { λ r. ⌜ ReleasedTo r (now (graph .entry)) known (now (hashes .entry)) (now (numbers .entry)) (now (deps .entry)) (now (count .entry)) (now (thashes .entry)) (now (tnumbers .entry)) (now (tdeps .entry)) (now (hashes .exit)) (now (numbers .exit)) (now (deps .exit)) (now (count .exit)) (now (thashes .exit)) (now (tnumbers .exit)) (now (tdeps .exit)) ⌝ }
 {
     if graph.len() / 32 < known {

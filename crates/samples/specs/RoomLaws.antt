@@ -5,8 +5,8 @@ use Prim.Native.Nat.{ℕ, _/_, _≤_}
 use native.Mathlib.Omega.{arith}
 use Rattle.tables.specs.Tables.{Tables, changeRoom, actorRoom, widthOf}
 use Rattle.tables.specs.Valid.{Lengths, Valid}
-use Rattle.actors.specs.declared.Numbered.{Numbered}
-use Rattle.actors.specs.Actors.{opening, opened, ifDone}
+use Rattle.actors.specs.declared.ActorAnswer.{ActorAnswer}
+use Rattle.actors.specs.Actors.{opening, opened, ifActorsDone}
 use Rattle.actors.specs.ActorLaws.{opening-done}
 use Rattle.actors.specs.Lives.{opened-valid}
 use Rattle.samples.specs.Room.{Room}
@@ -33,7 +33,7 @@ module _ (t : Tables) (r : Room t) where
       }
 
   -- whatever is answered to opening it for one actor, the tables are then valid
-  pub room-opened : (j : Numbered) (u : Tables) → j ≡ opening t 1 → u ≡ ifDone j (opened t 1) t → Valid u
+  pub room-opened : (j : ActorAnswer) (u : Tables) → j ≡ opening t 1 → u ≡ ifActorsDone j (opened t 1) t → Valid u
   room-opened j u e q =
       let l : 1 ≤ actorRoom t = let a = actors-are in omega arith in
-      subst Valid (sym (q ∙ ap (λ (i : Numbered). ifDone i (opened t 1) t) (e ∙ opening-done t 1 l))) (opened-valid t 1 room-lengths l)
+      subst Valid (sym (q ∙ ap (λ (i : ActorAnswer). ifActorsDone i (opened t 1) t) (e ∙ opening-done t 1 l))) (opened-valid t 1 room-lengths l)

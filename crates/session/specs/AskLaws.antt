@@ -11,7 +11,7 @@ use lib.ListN.{length, length-append}
 use borrow.Author.Tests.{le-leb, lt-leb, leb-true, leb-false}
 use Rattle.paper.specs.Adding.{Hub}
 use Rattle.paper.specs.Command.{Command, heads, clock, missing, owner, add, bad, commandOf}
-use Rattle.paper.specs.Session.{Phase, asking, ended, Told, badText, badLine, answer, after, asked, shortLine, longLine, lineStep, ending, answers}
+use Rattle.paper.specs.Session.{Phase, asking, ended, PhaseAfter, badText, badLine, answer, afterCommand, askedLine, shortLine, longLine, lineStep, ending, answers}
 use Rattle.paper.proofs.Same.{SameHub, hub-trans}
 use Rattle.list_laws.specs.Over.{over, over-none, over-over}
 use Rattle.text.specs.Parts.{part, partsFrom}
@@ -57,8 +57,8 @@ same-put bs cs at bt room e = ap (λ (m : ℕ). cond (leb m room) (Next m) Full)
 
 -- ---- a line that asks
 
-asked-good : (n : ℕ) (u : Hub) (x : Command) → good x ≡ true → asked n u x ≡ record { phase = asking (after u x); said = answer u x }
-unfolding asked
+asked-good : (n : ℕ) (u : Hub) (x : Command) → good x ≡ true → askedLine n u x ≡ record { phase = asking (afterCommand u x); said = answer u x }
+unfolding askedLine
 asked-good n u heads g = refl
 asked-good n u (clock hs) g = refl
 asked-good n u (missing hs) g = refl
@@ -67,12 +67,12 @@ asked-good n u (add h a s m k ds) g = refl
 asked-good n u bad g = let z : _≡_ {A = ℕ} 0 1 = cc in absurd (omega arith)
 
 module _ (n : ℕ) (u : Hub) (l : List ℕ) (short : length l ≤ 2400) where
-  step-good : good (commandOf l) ≡ true → lineStep (asking u) n l ≡ record { phase = asking (after u (commandOf l)); said = answer u (commandOf l) }
+  step-good : good (commandOf l) ≡ true → lineStep (asking u) n l ≡ record { phase = asking (afterCommand u (commandOf l)); said = answer u (commandOf l) }
   unfolding lineStep shortLine
   step-good g = rw (le-leb _ _ short) (asked-good n u (commandOf l) g)
 
   step-bad : commandOf l ≡ bad → lineStep (asking u) n l ≡ badLine n
-  unfolding lineStep shortLine asked
+  unfolding lineStep shortLine askedLine
   step-bad e = rw (le-leb _ _ short, e)
 
 -- ---- the start
@@ -129,7 +129,7 @@ module _ (s text out₀ : List ℕ) (t : Tables) (n at cur : ℕ) (out : List �
 
     module _ (g : good (commandOf (part s a e)) ≡ true) where
       -- the answer of the line, over the tables, and what follows
-      next-rest : text ≡ (k .done ++ answer (hub t) (commandOf (part s a e))) ++ answers (asking (after (k .here) (commandOf (part s a e)))) (suc n) (partsFrom 10 s (c .at))
+      next-rest : text ≡ (k .done ++ answer (hub t) (commandOf (part s a e))) ++ answers (asking (afterCommand (k .here) (commandOf (part s a e)))) (suc n) (partsFrom 10 s (c .at))
       next-rest =
           k .rest
           ∙ ap (k .done ++_)
@@ -138,14 +138,14 @@ module _ (s text out₀ : List ℕ) (t : Tables) (n at cur : ℕ) (out : List �
             step-good n (k .here) (part s a e) short g,
             answer-same (hub t) (k .here) (k .same) (valid-graph t (k .valid .sound)) (commandOf (part s a e)),
           ))
-          ∙ sym (append-assoc (k .done) (answer (hub t) (commandOf (part s a e))) (answers (asking (after (k .here) (commandOf (part s a e)))) (suc n) (partsFrom 10 s (c .at))))
+          ∙ sym (append-assoc (k .done) (answer (hub t) (commandOf (part s a e))) (answers (asking (afterCommand (k .here) (commandOf (part s a e)))) (suc n) (partsFrom 10 s (c .at))))
 
       -- the answer does not fit
       pub asking-full : (out₁ : List ℕ) → Said (answer (hub t) (commandOf (part s a e))) at Full out out₁ → Said text 0 Full out₀ out₁
       unfolding putAnswer
       asking-full out₁ w =
           let f = put-full (answer (hub t) (commandOf (part s a e))) at (length out) (w .answer) in
-          let more = answers (asking (after (k .here) (commandOf (part s a e)))) (suc n) (partsFrom 10 s (c .at)) in
+          let more = answers (asking (afterCommand (k .here) (commandOf (part s a e)))) (suc n) (partsFrom 10 s (c .at)) in
           let n₁ = ap length next-rest in
           let n₂ = length-append (k .done ++ answer (hub t) (commandOf (part s a e))) more in
           let n₃ = length-append (k .done) (answer (hub t) (commandOf (part s a e))) in
@@ -163,8 +163,8 @@ module _ (s text out₀ : List ℕ) (t : Tables) (n at cur : ℕ) (out : List �
           let m = length-append (k .done) (answer (hub t) x) in
           subst (λ (t₂ : Tables). Asking s text out₀ t₂ (n + 1) p (c .at) out₁) (sym h)
           (record {
-            here = after (k .here) x;
-            same = hub-trans (sym-hub (after (hub t) x) (hub (tablesAfter t x)) (after-hub t (k .valid) x)) (after-same (hub t) (k .here) (k .same) x);
+            here = afterCommand (k .here) x;
+            same = hub-trans (sym-hub (afterCommand (hub t) x) (hub (tablesAfter t x)) (after-hub t (k .valid) x)) (after-same (hub t) (k .here) (k .same) x);
             valid = after-valid t (k .valid) x;
             room = after-bench t (k .valid) x (k .room);
             done = k .done ++ answer (hub t) x;

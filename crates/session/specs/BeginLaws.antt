@@ -12,7 +12,7 @@ use lib.ListN.{length}
 use borrow.Author.Tests.{le-leb, leb-true}
 use Rattle.paper.specs.Bytes.{bytes}
 use Rattle.paper.specs.Lists.{sameList}
-use Rattle.paper.specs.Text.{parted, numberOf, given, next, last}
+use Rattle.paper.specs.Text.{parted, decimalOf, given, next, last}
 use Rattle.paper.specs.Command.{header, actorsWord, inRange, actorsBy, actorsOf}
 use Rattle.paper.specs.Session.{Phase, first, second, asking, ended, bench, badText, badLine, firstLine, secondLine, shortLine, longLine, lineStep, ending, answers, session}
 use Rattle.text.specs.Parts.{part, partsFrom}
@@ -95,10 +95,10 @@ actors-range (w ∷ fs) n e = go (sameList w actorsWord) fs e
     value (some v) [] h = range-of v n h
     value (some v) (g ∷ gs) h = let z : _≡_ {A = ℕ} 0 1 = cc in absurd (omega arith)
 
-    go : (t : Bool) (gs : List (List ℕ)) → cond t (next none numberOf gs (λ v hs. last none hs (inRange v))) none ≡ some n → (1 ≤ n) × (n ≤ 16)
+    go : (t : Bool) (gs : List (List ℕ)) → cond t (next none decimalOf gs (λ v hs. last none hs (inRange v))) none ≡ some n → (1 ≤ n) × (n ≤ 16)
     go false gs h = let z : _≡_ {A = ℕ} 0 1 = cc in absurd (omega arith)
     go true [] h = let z : _≡_ {A = ℕ} 0 1 = cc in absurd (omega arith)
-    go true (g ∷ gs) h = value (numberOf g) gs h
+    go true (g ∷ gs) h = value (decimalOf g) gs h
 
 -- ---- one line after the other
 

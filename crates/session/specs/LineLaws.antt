@@ -9,7 +9,7 @@ use lib.Dec.{leb, ltb}
 use lib.ListN.{length, take, drop, drop-of-length-le}
 use borrow.Author.Tests.{le-leb, leb-true, leb-false, ltb-true, ltb-false}
 use Rattle.paper.specs.Text.{parted}
-use Rattle.paper.specs.Session.{Phase, first, second, asking, ended, Told, badText, badLine, longLine, lineStep, ending, answers}
+use Rattle.paper.specs.Session.{Phase, first, second, asking, ended, PhaseAfter, badText, badLine, longLine, lineStep, ending, answers}
 use Rattle.paper.proofs.Session.{long-first}
 use Rattle.text.specs.Parts.{endOf, part, partsFrom}
 use Rattle.text.specs.PartsLaws.{parts-at, parts-out, part-length, end-bounds}

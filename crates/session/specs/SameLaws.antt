@@ -10,10 +10,10 @@ use borrow.Author.Tests.{eq-eqb, ltb-true}
 use Rattle.paper.specs.Lists.{mem, pick, each-below}
 use Rattle.paper.specs.Text.{listText, clockText, hexOf, digitsOf}
 use Rattle.paper.specs.Graph as graph
-use Rattle.paper.specs.Graph.{Graph, nodes, above, Valid}
+use Rattle.paper.specs.Graph.{Graph, nodes, above, ValidGraph}
 use Rattle.paper.specs.Adding.{Hub, judged}
 use Rattle.paper.specs.Command.{Command, heads, clock, missing, owner, add, bad, headsWord, clockWord, missingWord, ownerWord, addWord}
-use Rattle.paper.specs.Session.{answerLine, verdictText, ownerText, entries, missed, changeOf, answer, after}
+use Rattle.paper.specs.Session.{answerLine, verdictText, ownerText, entries, missed, changeOf, answer, afterCommand}
 use Rattle.paper.proofs.Bools.{by-bool, or-left, or-right, pick-mem}
 use Rattle.paper.proofs.Same.{SameGraph, SameHub, nodes-same, judged-same, added-same, clock-same, missing-same, heads-same, owner-same}
 
@@ -53,7 +53,7 @@ map-same f g (k ∷ s) h =
 
 -- ---- the answers
 
-module _ (u v : Hub) (e : SameHub u v) (ok : Valid (u .graph)) where
+module _ (u v : Hub) (e : SameHub u v) (ok : ValidGraph (u .graph)) where
   entries-same : (hs : List (List ℕ)) → entries v hs ≡ entries u hs
   unfolding entries
   entries-same hs =
@@ -87,8 +87,8 @@ module _ (u v : Hub) (e : SameHub u v) (ok : Valid (u .graph)) where
   answer-same (add h a s m k ds) = ap (λ y. answerLine addWord (verdictText (changeOf h a s m k ds) y)) (judged-same u v (changeOf h a s m k ds) e)
   answer-same bad = refl
 
-pub after-same : (u v : Hub) → SameHub u v → (x : Command) → SameHub (after u x) (after v x)
-unfolding after
+pub after-same : (u v : Hub) → SameHub u v → (x : Command) → SameHub (afterCommand u x) (afterCommand v x)
+unfolding afterCommand
 after-same u v e heads = e
 after-same u v e (clock hs) = e
 after-same u v e (missing hs) = e

@@ -22,7 +22,7 @@ use Rattle.tables.specs.Tables.{Tables, changes, edges, actors, changeRoom, edg
 use Rattle.tables.specs.Valid.{Valid, countOf}
 use Rattle.judge.specs.declared.Judged.{Judged}
 use Rattle.judge.specs.declared.Judged.the-variants.{Done, Malformed, Known, Unknown, NoActor, WrongSequence, BadOps, TooManyDeps, NoNodeRoom, NoEdgeRoom}
-use Rattle.judge.specs.Judge.{change, depCount, misshapen, unlessFound, unlessMissing, judged, verdict, numberOf}
+use Rattle.judge.specs.Judge.{change, depsGiven, misshapen, unlessFound, unlessMissing, tablesJudged, verdict, judgedNumber}
 use Rattle.judge.specs.Hub.{hub}
 use Rattle.judge.specs.HubLaws.{judged-agrees}
 use Rattle.print.specs.HexLaws.{node-part}
@@ -43,12 +43,12 @@ none-named false false false false false true = refl
 none-named false false false false false false = refl
 
 module _ (t : Tables) (x : Change) where
-  place-low : (i : ℕ) → missingOf (judged t x) ≡ First i → i < length (x .deps) / 32
-  unfolding judged MissingIs
+  place-low : (i : ℕ) → missingOf (tablesJudged t x) ≡ First i → i < length (x .deps) / 32
+  unfolding tablesJudged MissingIs
   place-low i h =
       go (misshapen x) (findHash (t .hashes) (changes t) (x .hash)) (firstUnknown (t .hashes) (changes t) (x .deps)) refl _
       (none-named (leb (actors t) (x .actor)) (not (eqb (x .seq) (suc (countOf (t .nodes) (x .actor) (changes t)))))
-      (ltb 4294967295 (x .max-op) || ltb (x .max-op) (x .ops)) (ltb 32 (depCount x)) (leb (changeRoom t) (changes t)) (ltb (edgeRoom t) (edges t + depCount x)))
+      (ltb 4294967295 (x .max-op) || ltb (x .max-op) (x .ops)) (ltb 32 (depsGiven x)) (leb (changeRoom t) (changes t)) (ltb (edgeRoom t) (edges t + depsGiven x)))
       h
     where
       go : (m : Bool) (f : Found) (w : Missing) → firstUnknown (t .hashes) (changes t) (x .deps) ≡ w → (rest : Judged) → missingOf rest ≡ Nothing
@@ -61,7 +61,7 @@ module _ (t : Tables) (x : Change) where
           omega (arith, u .0)
       go false Nowhere Nothing q rest r e = let z : _≡_ {A = ℕ} 0 1 = cc in absurd (omega arith)
 
-  pub judged-named : Named (judged t x) (x .deps)
+  pub judged-named : Named (tablesJudged t x) (x .deps)
   judged-named = record { inside = λ i e. omega (arith, place-low i e) }
 
 -- ---- the text of each answer
@@ -79,7 +79,7 @@ text-unknown TooManyDeps ds i e = let z : _≡_ {A = ℕ} 0 1 = cc in absurd (om
 text-unknown NoNodeRoom ds i e = let z : _≡_ {A = ℕ} 0 1 = cc in absurd (omega arith)
 text-unknown NoEdgeRoom ds i e = let z : _≡_ {A = ℕ} 0 1 = cc in absurd (omega arith)
 
-pub text-number : (j : Judged) (ds : List ℕ) → missingOf j ≡ Nothing → judgedText j ds ≡ digitsOf (numberOf j)
+pub text-number : (j : Judged) (ds : List ℕ) → missingOf j ≡ Nothing → judgedText j ds ≡ digitsOf (judgedNumber j)
 unfolding verdictText
 text-number (Unknown k) ds e = let z : _≡_ {A = ℕ} 0 1 = cc in absurd (omega arith)
 text-number Done ds e = refl
@@ -99,8 +99,8 @@ same-text x (plain o) = refl
 same-text x (unknown i) = refl
 
 -- over valid tables it is the paper's
-pub judged-text : (t : Tables) (x : Change) → Valid t → judgedText (judged t x) (x .deps) ≡ verdictText x (paper-judged (hub t) x)
-judged-text t x v = same-text x (verdict (judged t x)) ∙ ap (verdictText x) (judged-agrees t x (v .sound))
+pub judged-text : (t : Tables) (x : Change) → Valid t → judgedText (tablesJudged t x) (x .deps) ≡ verdictText x (paper-judged (hub t) x)
+judged-text t x v = same-text x (verdict (tablesJudged t x)) ∙ ap (verdictText x) (judged-agrees t x (v .sound))
 
 -- ---- the line that is written
 
@@ -110,13 +110,13 @@ module _ (j : Judged) (ds : List ℕ) (at : ℕ) (r : Put) (out₀ out₁ : List
       → Said (answerLine addWord (judgedText j ds)) at r out₀ out₁
   said-unknown i e w = rw (text-unknown j ds i e) (rw (node-part ds i) at w)
 
-  pub said-number : (n : ℕ) → missingOf j ≡ Nothing → n ≡ numberOf j → Said (answerLine addWord (digitsOf n)) at r out₀ out₁ → Said (answerLine addWord (judgedText j ds)) at r out₀ out₁
+  pub said-number : (n : ℕ) → missingOf j ≡ Nothing → n ≡ judgedNumber j → Said (answerLine addWord (digitsOf n)) at r out₀ out₁ → Said (answerLine addWord (judgedText j ds)) at r out₀ out₁
   said-number n e q w = rw (text-number j ds e, ← q) w
 
-pub said-add : (t : Tables) (x : Change) (j : Judged) (at : ℕ) (r : Put) (out₀ out₁ : List ℕ) → Valid t → j ≡ judged t x
+pub said-add : (t : Tables) (x : Change) (j : Judged) (at : ℕ) (r : Put) (out₀ out₁ : List ℕ) → Valid t → j ≡ tablesJudged t x
     → Said (answerLine addWord (judgedText j (x .deps))) at r out₀ out₁ → Said (answerLine addWord (verdictText x (paper-judged (hub t) x))) at r out₀ out₁
 said-add t x j at r out₀ out₁ v e w =
     subst (λ (y : List ℕ). Said (answerLine addWord y) at r out₀ out₁) (ap (λ (i : Judged). judgedText i (x .deps)) e ∙ judged-text t x v) w
 
-pub named-as : (t : Tables) (x : Change) (j : Judged) → j ≡ judged t x → Named j (x .deps)
+pub named-as : (t : Tables) (x : Change) (j : Judged) → j ≡ tablesJudged t x → Named j (x .deps)
 named-as t x j e = subst (λ (i : Judged). Named i (x .deps)) (sym e) (judged-named t x)

@@ -17,7 +17,7 @@ use Rattle.answer_buffer.specs.Entering.{Wide}
 use Rattle.tables.specs.Tables.{Tables}
 use Rattle.judge.specs.Judge.{change}
 use Rattle.judge.specs.Hub.{hub}
-use Rattle.graph.specs.Place.{added}
+use Rattle.graph.specs.Place.{addedTables}
 use Rattle.command.specs.Answers.{hashAfter, Answered}
 use Rattle.command.specs.declared.Line.{Line}
 use Rattle.command.specs.declared.Line.the-variants as line
@@ -149,6 +149,6 @@ module _ (t : Tables) {x : Command} {r : Line} {hash₀ hash₁ list₀ list₁ 
     add-arm l at p out₀ out₁ z q y =
         told adding refl at p out₀ out₁ z q (subst (λ (i : Change). Said (answerLine addWord (verdictText i (judged (hub t) i))) at p out₀ out₁) (same-change l) y)
 
-    pub add-tables : length hash₀ ≡ 32 → (u : Tables) → u ≡ added t (change hash₁ a s m k (take (32 * n - 0) list₁)) → u ≡ tablesAfter t x
+    pub add-tables : length hash₀ ≡ 32 → (u : Tables) → u ≡ addedTables t (change hash₁ a s m k (take (32 * n - 0) list₁)) → u ≡ tablesAfter t x
     unfolding tablesAfter
-    add-tables l u q = q ∙ ap (added t) (same-change l) ∙ sym (ap (tablesAfter t) adding)
+    add-tables l u q = q ∙ ap (addedTables t) (same-change l) ∙ sym (ap (tablesAfter t) adding)

@@ -14,7 +14,7 @@ use Rattle.paper.proofs.Count.{tally-most}
 use Rattle.tables.specs.Tables.{Tables, changes, graph}
 use Rattle.tables.specs.Valid.{Valid}
 use Rattle.judge.specs.Hub.{hub}
-use Rattle.answer_buffer.specs.Answers.{listed, filled}
+use Rattle.answer_buffer.specs.Answers.{listAnswer, filled}
 use Rattle.answer_buffer.specs.Entering.{Wide, wide-ascending, flat-long}
 use Rattle.heads.specs.Heads.{head-hashes}
 use Rattle.heads.specs.HeadLaws.{is-head, from-node, from-wide, from-all, heads-long}
@@ -38,7 +38,7 @@ module _ (t : Tables) (v : Valid t) (b : Bench (hub t)) where
       let r = b .changes in
       omega arith
 
-  module _ (list₀ : List ℕ) (long : length list₀ ≡ 8192) (n : ℕ) (e : n ≡ countOf (listed (head-hashes (graph t)) (length list₀))) (list : List ℕ) (f : list ≡ filled (head-hashes (graph t)) list₀) where
+  module _ (list₀ : List ℕ) (long : length list₀ ≡ 8192) (n : ℕ) (e : n ≡ countOf (listAnswer (head-hashes (graph t)) (length list₀))) (list : List ℕ) (f : list ≡ filled (head-hashes (graph t)) list₀) where
     pub heads-inside : 32 * (n / 32) ≤ length list
     unfolding head-hashes
     heads-inside = listed-inside (heads-of (graph t)) heads-wide list₀ (let l = heads-fit in omega arith) n e list f

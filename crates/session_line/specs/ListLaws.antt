@@ -7,7 +7,7 @@ use native.Mathlib.Omega.{arith}
 use lib.ListN.{length, drop, length-append}
 use Rattle.paper.specs.Lists.{hashes-from, hashes-of}
 use Rattle.paper.specs.Text.{flat}
-use Rattle.answer_buffer.specs.Answers.{listed, filled}
+use Rattle.answer_buffer.specs.Answers.{listAnswer, filled}
 use Rattle.answer_buffer.specs.AnswerLaws.{listed-done, filled-done}
 use Rattle.answer_buffer.specs.Entering.{Wide, flat-long, hashes-in}
 use Rattle.session_line.specs.Lines.{countOf}
@@ -30,7 +30,7 @@ module _ (l : List (List ℕ)) (w : Wide l) where
   whole-back = read-flat (length (flat l)) refl
 
   -- a list that fits into a buffer
-  module _ (out₀ : List ℕ) (fits : length (flat l) ≤ length out₀) (n : ℕ) (e : n ≡ countOf (listed (flat l) (length out₀))) where
+  module _ (out₀ : List ℕ) (fits : length (flat l) ≤ length out₀) (n : ℕ) (e : n ≡ countOf (listAnswer (flat l) (length out₀))) where
     pub listed-long : n ≡ length (flat l)
     listed-long = e ∙ ap countOf (listed-done (flat l) (length out₀) fits)
 

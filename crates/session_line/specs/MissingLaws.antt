@@ -22,7 +22,7 @@ use Rattle.tables.specs.Tables.{Tables, changes, actorAt, seqAt, graph}
 use Rattle.tables.specs.Valid.{Valid, Running}
 use Rattle.tables.specs.DepsLaws.{valid-graph}
 use Rattle.judge.specs.Hub.{hub}
-use Rattle.answer_buffer.specs.Answers.{listed}
+use Rattle.answer_buffer.specs.Answers.{listAnswer}
 use Rattle.answer_buffer.specs.declared.Listed.the-variants.{Done, Short}
 use Rattle.answer_buffer.specs.AnswerLaws.{listed-done, filled-done}
 use Rattle.answer_buffer.specs.Entering.{Wide, wide-cons}
@@ -53,8 +53,8 @@ all-rest hs p n all zero k l = refl
 all-rest hs p n all (suc left) k l = rw (all k (omega arith)) (ap (λ (r : List (List ℕ)). hashAt hs k ∷ r) (all-rest hs p n all left (suc k) (omega arith)))
 
 -- a list that was answered fits
-done-fits : (l : List ℕ) (room n : ℕ) → listed l room ≡ Done n → length l ≤ room
-unfolding listed
+done-fits : (l : List ℕ) (room n : ℕ) → listAnswer l room ≡ Done n → length l ≤ room
+unfolding listAnswer
 done-fits l room n = go (leb (length l) room) refl
   where
     go : (b : Bool) → leb (length l) room ≡ b → cond b (Done (length l)) Short ≡ Done n → length l ≤ room
@@ -120,7 +120,7 @@ module _ (t : Tables) (v : Valid t) where
 
       shown-some : (length have ≡ 0 → ⊥) → shown (t .hashes) (missing-filled (graph t) have buffer) have n ≡ missing-hashes (graph t) have
       shown-some z =
-          let h : listed (missing-hashes (graph t) have) (length buffer) ≡ Done n = sym (list-told (graph t) have whole z (length buffer)) ∙ e in
+          let h : listAnswer (missing-hashes (graph t) have) (length buffer) ≡ Done n = sym (list-told (graph t) have whole z (length buffer)) ∙ e in
           let l = done-fits (missing-hashes (graph t) have) (length buffer) n h in
           let d : Done n ≡ Done (length (missing-hashes (graph t) have)) = sym h ∙ listed-done (missing-hashes (graph t) have) (length buffer) l in
           let q : n ≡ length (missing-hashes (graph t) have) = cc in

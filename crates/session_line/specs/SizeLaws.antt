@@ -10,7 +10,7 @@ use lib.Dec.{eqb}
 use lib.ListN.{length}
 use borrow.Author.Tests.{eq-eqb}
 use Rattle.paper.specs.Lists.{sameList, every}
-use Rattle.paper.specs.Text.{parted, numberOf, isHash, bytesOf, hashOf, before, hashesOf, listOf, given, next, last}
+use Rattle.paper.specs.Text.{parted, decimalOf, isHash, bytesOf, hashOf, before, hashesOf, listOf, given, next, last}
 use Rattle.paper.specs.Command.{Command, heads, clock, missing, owner, add, bad, headsWord, clockWord, missingWord, ownerWord, addWord, oneList, ownerLine, addLine, byWord, commandOf}
 use Rattle.paper.proofs.Bools.{by-bool, and-both}
 use Rattle.text.specs.WordsLaws.{hash-bytes}
@@ -89,7 +89,7 @@ module _ {A : Type 0} (read : List ℕ → Option A) (k : A → List (List ℕ) 
 
 owner-sized : (fs : List (List ℕ)) → sized (ownerLine fs) ≡ true
 unfolding ownerLine last sized
-owner-sized fs = next-sized numberOf _ (λ f a e gs. next-sized numberOf _ (λ g c q hs. end a c hs) gs) fs
+owner-sized fs = next-sized decimalOf _ (λ f a e gs. next-sized decimalOf _ (λ g c q hs. end a c hs) gs) fs
   where
     end : (a c : ℕ) (hs : List (List ℕ)) → sized (last bad hs (owner a c)) ≡ true
     end a c [] = refl
@@ -100,10 +100,10 @@ unfolding addLine
 add-sized fs =
     next-sized hashOf _
     (λ f h e f₁.
-    next-sized numberOf _
+    next-sized decimalOf _
     (λ g₁ a e₁ f₂.
-    next-sized numberOf _
-    (λ g₂ s e₂ f₃. next-sized numberOf _ (λ g₃ m e₃ f₄. next-sized numberOf _ (λ g₄ k e₄ f₅. deps-sized h a s m k (hash-sized f h e) (oneList f₅) (one-sized f₅)) f₄) f₃) f₂)
+    next-sized decimalOf _
+    (λ g₂ s e₂ f₃. next-sized decimalOf _ (λ g₃ m e₃ f₄. next-sized decimalOf _ (λ g₄ k e₄ f₅. deps-sized h a s m k (hash-sized f h e) (oneList f₅) (one-sized f₅)) f₄) f₃) f₂)
     f₁)
     fs
 

@@ -9,7 +9,7 @@ use Rattle.paper.specs.Command.{Command, heads, clock, missing, owner, add, bad
 use Rattle.paper.specs.Session.{changeOf, answer}
 use Rattle.tables.specs.Tables.{Tables}
 use Rattle.judge.specs.Hub.{hub}
-use Rattle.graph.specs.Place.{added}
+use Rattle.graph.specs.Place.{addedTables}
 use Rattle.print.specs.declared.Put.the-variants as put
 use Rattle.reply.specs.Said.{Said}
 use Rattle.session_line.specs.declared.Told.{Told}
@@ -21,7 +21,7 @@ tablesAfter t heads = t
 tablesAfter t (clock hs) = t
 tablesAfter t (missing hs) = t
 tablesAfter t (owner a c) = t
-tablesAfter t (add h a s m k ds) = added t (changeOf h a s m k ds)
+tablesAfter t (add h a s m k ds) = addedTables t (changeOf h a s m k ds)
 tablesAfter t bad = t
 
 -- the bench room, with 1 to 16 actors

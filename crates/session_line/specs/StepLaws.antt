@@ -4,7 +4,7 @@ use mathlib.Core.Path.{_∙_}
 use native.Mathlib.Omega.{arith}
 use Rattle.paper.specs.Adding.{Hub, Change, accepts, judged, added as paper-added}
 use Rattle.paper.specs.Command.{Command, heads, clock, missing, owner, add, bad}
-use Rattle.paper.specs.Session.{changeOf, after}
+use Rattle.paper.specs.Session.{changeOf, afterCommand}
 use Rattle.paper.proofs.Bools.{by-bool}
 use Rattle.paper.proofs.Same.{SameHub, same-hub}
 use Rattle.tables.specs.Tables.{Tables}
@@ -15,8 +15,8 @@ use Rattle.graph.specs.Life.{added-valid}
 use Rattle.session_line.specs.Step.{tablesAfter, Bench}
 
 module _ (t : Tables) (v : Valid t) where
-  pub after-hub : (x : Command) → SameHub (after (hub t) x) (hub (tablesAfter t x))
-  unfolding after tablesAfter
+  pub after-hub : (x : Command) → SameHub (afterCommand (hub t) x) (hub (tablesAfter t x))
+  unfolding afterCommand tablesAfter
   after-hub heads = same-hub (hub t)
   after-hub (clock hs) = same-hub (hub t)
   after-hub (missing hs) = same-hub (hub t)
@@ -48,11 +48,11 @@ same-bench u w e b =
     }
 
 pub after-bench : (t : Tables) → Valid t → (x : Command) → Bench (hub t) → Bench (hub (tablesAfter t x))
-unfolding after
+unfolding afterCommand
 after-bench t v heads b = same-bench (hub t) (hub (tablesAfter t heads)) (after-hub t v heads) b
 after-bench t v (clock hs) b = same-bench (hub t) (hub (tablesAfter t (clock hs))) (after-hub t v (clock hs)) b
 after-bench t v (missing hs) b = same-bench (hub t) (hub (tablesAfter t (missing hs))) (after-hub t v (missing hs)) b
 after-bench t v (owner a c) b = same-bench (hub t) (hub (tablesAfter t (owner a c))) (after-hub t v (owner a c)) b
 after-bench t v (add h a s m k ds) b =
-    same-bench (after (hub t) (add h a s m k ds)) (hub (tablesAfter t (add h a s m k ds))) (after-hub t v (add h a s m k ds)) (added-bench (hub t) (changeOf h a s m k ds) b)
+    same-bench (afterCommand (hub t) (add h a s m k ds)) (hub (tablesAfter t (add h a s m k ds))) (after-hub t v (add h a s m k ds)) (added-bench (hub t) (changeOf h a s m k ds) b)
 after-bench t v bad b = same-bench (hub t) (hub (tablesAfter t bad)) (after-hub t v bad) b

@@ -11,7 +11,7 @@ ghost use Rattle.tables.specs.Tables.{tables};
 ghost use Rattle.tables.specs.Valid.{Valid};
 ghost use Rattle.judge.specs.Judge.{change};
 ghost use Rattle.judge.specs.Hub.{hub};
-ghost use Rattle.graph.specs.Place.{added};
+ghost use Rattle.graph.specs.Place.{addedTables};
 ghost use Rattle.reply.specs.Said.{Said};
 ghost use Rattle.session_line.specs.Added.{missingOf, Named, judgedText};
 ghost use Rattle.session_line.specs.Step.{tablesAfter, Bench, Stepped};
@@ -83,7 +83,7 @@ pub fn add_line(
     requires { ⌜ Valid (tables (now hashes) (now nodes) (now targets) (now nexts) (now clocks) (now counts)) ⌝ }
     requires { ⌜ at ≤ length (now out) ⌝ }
     ensures { λ r. ⌜ Said (answerLine addWord (verdictText (change (now (hash .entry)) actor seq max ops (now (deps .entry))) (judged (hub (tables (now (hashes .entry)) (now (nodes .entry)) (now (targets .entry)) (now (nexts .entry)) (now (clocks .entry)) (now (counts .entry)))) (change (now (hash .entry)) actor seq max ops (now (deps .entry)))))) at r (now (out .entry)) (now (out .exit)) ⌝ }
-    ensures { λ _. ⌜ tables (now (hashes .exit)) (now (nodes .exit)) (now (targets .exit)) (now (nexts .exit)) (now (clocks .exit)) (now (counts .exit)) ≡ added (tables (now (hashes .entry)) (now (nodes .entry)) (now (targets .entry)) (now (nexts .entry)) (now (clocks .entry)) (now (counts .entry))) (change (now (hash .entry)) actor seq max ops (now (deps .entry))) ⌝ }
+    ensures { λ _. ⌜ tables (now (hashes .exit)) (now (nodes .exit)) (now (targets .exit)) (now (nexts .exit)) (now (clocks .exit)) (now (counts .exit)) ≡ addedTables (tables (now (hashes .entry)) (now (nodes .entry)) (now (targets .entry)) (now (nexts .entry)) (now (clocks .entry)) (now (counts .entry))) (change (now (hash .entry)) actor seq max ops (now (deps .entry))) ⌝ }
 {
     let j = graph::add(
         hashes,

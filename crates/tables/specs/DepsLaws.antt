@@ -13,7 +13,7 @@ use native.Mathlib.Omega.{arith}
 use native.Mathlib.Numerals.{add-one}
 use native.Mathlib.Decide.{decLt}
 use Rattle.paper.specs.Lists.{mem, some-below}
-use Rattle.paper.specs.Graph.{wanted, Valid as ValidGraph}
+use Rattle.paper.specs.Graph.{wanted, ValidGraph as ValidGraph}
 use Rattle.paper.proofs.Bools.{same-bool, mem-nil, mem-place, mem-getD, some-of, of-some}
 use Rattle.tables.specs.Tables.{Tables, changes, edges, firstAt, links, along, graph}
 use Rattle.tables.specs.Valid.{Run, Laid, Running, Sound, Heads}

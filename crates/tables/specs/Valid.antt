@@ -30,8 +30,8 @@ pub record Counts (hs ts cs us : List ℕ) : Type 0 where
   pub actors-fit : getD us 2 0 ≤ widthOf hs cs
 
 -- the first n hashes are distinct
-unfoldable pub Distinct : List ℕ → ℕ → Type 0
-Distinct hs n = (j : ℕ) → j < n → (i : ℕ) → i < j → hashAt hs i ≡ hashAt hs j → ⊥
+unfoldable pub HashesDistinct : List ℕ → ℕ → Type 0
+HashesDistinct hs n = (j : ℕ) → j < n → (i : ℕ) → i < j → hashAt hs i ≡ hashAt hs j → ⊥
 
 -- an actor below the count, and rule 7: an op count not above the max op. (That a max op is below 2 ^ 32 the table's type says.)
 pub record NumbersAt (ns : List ℕ) (w k : ℕ) : Type 0 where
@@ -75,7 +75,7 @@ Rows t =
 pub record Sound (t : Tables) : Type 0 where
   pub lengths : Lengths t
   pub counts : Counts (t .hashes) (t .targets) (t .clocks) (t .counts)
-  pub distinct : Distinct (t .hashes) (changes t)
+  pub distinct : HashesDistinct (t .hashes) (changes t)
   pub numbers : Numbers (t .nodes) (changes t) (actors t)
   pub laid : Laid (t .nodes) (t .targets) (t .nexts) (changes t) (edges t)
   pub running : Running (t .nodes) (changes t)

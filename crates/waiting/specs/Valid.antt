@@ -11,8 +11,8 @@ use Rattle.paper.specs.Numbers.{number, done, not-valid}
 use Rattle.paper.specs.Queue.{Distinct}
 use Rattle.ready.specs.Tables.{queueOf}
 use Rattle.records.specs.Records.{Few}
-use Rattle.waiting.specs.declared.Opened.{Opened}
-use Rattle.waiting.specs.declared.Opened.the-variants.{Done, NotValid}
+use Rattle.waiting.specs.declared.StoreOpened.{StoreOpened}
+use Rattle.waiting.specs.declared.StoreOpened.the-variants.{Done, NotValid}
 
 -- the lent tables of a queue or a batch
 pub record Store : Type 0 where
@@ -33,7 +33,7 @@ abbrev pub waiting : List ℕ → ℕ
 waiting cs = getD cs 0 0
 
 -- lengths agree, and the room is at most 256
-pub record Laid (hs ns ds cs : List ℕ) : Type 0 where
+pub record StoreLaid (hs ns ds cs : List ℕ) : Type 0 where
   pub one-count : length cs ≡ 1
   pub most : room hs ≤ 256
   pub hashes-whole : length hs ≡ 32 * room hs
@@ -42,22 +42,22 @@ pub record Laid (hs ns ds cs : List ℕ) : Type 0 where
 
 -- besides, the count is within the room
 pub record Sized (hs ns ds cs : List ℕ) : Type 0 where
-  pub laid : Laid hs ns ds cs
+  pub laid : StoreLaid hs ns ds cs
   pub within : waiting cs ≤ room hs
 
 -- valid: besides, at most 32 dependencies each, hashes distinct, (actor, sequence) distinct
-pub record Valid (hs ns ds cs : List ℕ) : Type 0 where
+pub record StoreValid (hs ns ds cs : List ℕ) : Type 0 where
   pub sized : Sized hs ns ds cs
   pub few : Few ns (waiting cs)
   pub distinct : Distinct (queueOf hs ns ds (waiting cs))
 
 -- the same of a store
 abbrev pub GoodStore : Store → Type 0
-GoodStore s = Valid (s .hashes) (s .numbers) (s .deps) (s .count)
+GoodStore s = StoreValid (s .hashes) (s .numbers) (s .deps) (s .count)
 
 -- a public operation: what is lent is valid and the one holds, or it is not and the other does
-abbrev pub Checked : Type 0 → Type 0 → Type 0 → Type 0
-Checked held good bad = (held × good) ⊎ ((held → ⊥) × bad)
+abbrev pub HeldOrNot : Type 0 → Type 0 → Type 0 → Type 0
+HeldOrNot held good bad = (held × good) ⊎ ((held → ⊥) × bad)
 
 -- one of the first n records has the actor and the sequence
 unfoldable pub hasActorSeq : List ℕ → ℕ → ℕ → ℕ → Bool
@@ -82,11 +82,11 @@ pub record Same (hs ns ds cs hs′ ns′ ds′ cs′ : List ℕ) : Type 0 where
 -- ---- opening
 
 -- the paper's number
-abbrev pub numberOf : Opened → ℕ
-numberOf Done = number done
-numberOf NotValid = number not-valid
+abbrev pub storeOpenedNumber : StoreOpened → ℕ
+storeOpenedNumber Done = number done
+storeOpenedNumber NotValid = number not-valid
 
 -- the count is 0, or it is as it was
-unfoldable pub OpenedTo : Opened → List ℕ → List ℕ → Type 0
+unfoldable pub OpenedTo : StoreOpened → List ℕ → List ℕ → Type 0
 OpenedTo Done cs cs′ = cs′ ≡ set cs 0 0
 OpenedTo NotValid cs cs′ = cs′ ≡ cs

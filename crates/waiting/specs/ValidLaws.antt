@@ -23,7 +23,7 @@ use Rattle.hash.specs.declared.Found.the-variants.{At, Unknown}
 use Rattle.ready.specs.Tables.{queueOf, isAt, knownIn, depCount}
 use Rattle.records.specs.Records.{Few, Rooms}
 use Rattle.records.specs.RecordLaws.{rooms-less}
-use Rattle.waiting.specs.Valid.{room, waiting, Laid, Sized, Valid, Apart, hasActorSeq, isRoomy}
+use Rattle.waiting.specs.Valid.{room, waiting, StoreLaid, Sized, StoreValid, Apart, hasActorSeq, isRoomy}
 
 -- ---- few
 
@@ -139,10 +139,10 @@ apart-distinct hs ns ds n = (
 pub sized-rooms : {hs ns ds cs : List ℕ} → Sized hs ns ds cs → Rooms hs ns ds (room hs)
 sized-rooms s = record { hashes = omega (arith, s .laid .hashes-whole); numbers = omega (arith, s .laid .numbers-agree); deps = omega (arith, s .laid .deps-agree) }
 
-pub valid-rooms : {hs ns ds cs : List ℕ} → Valid hs ns ds cs → Rooms hs ns ds (waiting cs)
+pub valid-rooms : {hs ns ds cs : List ℕ} → StoreValid hs ns ds cs → Rooms hs ns ds (waiting cs)
 valid-rooms {cs = cs} v = rooms-less (waiting cs) (sized-rooms (v .sized)) (v .sized .within)
 
-pub valid-small : {hs ns ds cs : List ℕ} → Valid hs ns ds cs → waiting cs ≤ 256
+pub valid-small : {hs ns ds cs : List ℕ} → StoreValid hs ns ds cs → waiting cs ≤ 256
 valid-small v = omega (arith, v .sized .within, v .sized .laid .most)
 
 pub roomy-rooms : (th tn td : List ℕ) (r : ℕ) → isRoomy (length th) (length tn) (length td) r ≡ true → Rooms th tn td r

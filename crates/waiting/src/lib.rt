@@ -8,18 +8,18 @@ ghost use mathlib.Core.Bool.{true, _&&_};
 ghost use lib.Dec.{eqb};
 ghost use Prim.Native.Nat.{ℕ, _+_, _*_, _≤_, _<_};
 ghost use lib.ListN.{length, getD};
-ghost use Rattle.waiting.specs.Valid.{Laid, Sized, Valid, Checked, Apart, hasActorSeq, isRoomy, OpenedTo};
+ghost use Rattle.waiting.specs.Valid.{StoreLaid, Sized, StoreValid, HeldOrNot, Apart, hasActorSeq, isRoomy, OpenedTo};
 ghost use Rattle.records.specs.Records.{Few};
 
 // What opening answers.
-pub enum Opened {
+pub enum StoreOpened {
     Done,
     NotValid,
 }
 
 // Do the lengths agree, and is the room at most 256?
 fn laid(hashes: &[u8], numbers: &[u64], deps: &[u8], count: &[u32]) -> bool
-    ensures { λ r. ⌜ (r ≡ true) ↔ Laid (now (hashes .entry)) (now (numbers .entry)) (now (deps .entry)) (now (count .entry)) ⌝ }
+    ensures { λ r. ⌜ (r ≡ true) ↔ StoreLaid (now (hashes .entry)) (now (numbers .entry)) (now (deps .entry)) (now (count .entry)) ⌝ }
 {
     let room = hashes.len() / 32;
     if count.len() != 1 {
@@ -108,7 +108,7 @@ fn apart(hashes: &[u8], numbers: &[u64], n: usize) -> bool
 
 // Is what is lent a valid queue or batch? If not, an operation answers 1.
 pub fn valid(hashes: &[u8], numbers: &[u64], deps: &[u8], count: &[u32]) -> bool
-    ensures { λ r. ⌜ (r ≡ true) ↔ Valid (now (hashes .entry)) (now (numbers .entry)) (now (deps .entry)) (now (count .entry)) ⌝ }
+    ensures { λ r. ⌜ (r ≡ true) ↔ StoreValid (now (hashes .entry)) (now (numbers .entry)) (now (deps .entry)) (now (count .entry)) ⌝ }
 {
     if !sized(hashes, numbers, deps, count) {
         return false;
@@ -121,15 +121,15 @@ pub fn valid(hashes: &[u8], numbers: &[u64], deps: &[u8], count: &[u32]) -> bool
 }
 
 // Opens an empty queue or batch: 1 if the lengths disagree, or 0 and the count is 0. What the tables held has no meaning, and stays.
-pub fn open_empty(hashes: &[u8], numbers: &[u64], deps: &[u8], count: &mut [u32]) -> Opened
-    ensures { λ r. ⌜ Checked (Laid (now (hashes .entry)) (now (numbers .entry)) (now (deps .entry)) (now (count .entry))) (r ≡ Opened.Done) (r ≡ Opened.NotValid) ⌝ }
+pub fn open_empty(hashes: &[u8], numbers: &[u64], deps: &[u8], count: &mut [u32]) -> StoreOpened
+    ensures { λ r. ⌜ HeldOrNot (StoreLaid (now (hashes .entry)) (now (numbers .entry)) (now (deps .entry)) (now (count .entry))) (r ≡ Opened.Done) (r ≡ Opened.NotValid) ⌝ }
     ensures { λ r. ⌜ OpenedTo r (now (count .entry)) (now (count .exit)) ⌝ }
 {
     if !laid(hashes, numbers, deps, count) {
-        return Opened::NotValid;
+        return StoreOpened::NotValid;
     }
     count[0] = 0;
-    Opened::Done
+    StoreOpened::Done
 }
 
 // Have tables of these lengths room for r records?

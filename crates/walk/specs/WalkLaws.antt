@@ -12,7 +12,7 @@ use lib.ListN.{length, getD, set, length-set, List·getD-eq-default}
 use lib.Seq.{getD-set-same, getD-set-other}
 use borrow.Author.Tests.{eqb-true, eqb-false, eq-eqb, ne-eqb, ltb-true, ltb-false, lt-ltb, le-ltb}
 use Rattle.paper.specs.Lists.{mem, pick}
-use Rattle.paper.specs.Graph.{Graph, own, clock, look, Valid as ValidGraph}
+use Rattle.paper.specs.Graph.{Graph, own, clock, look, ValidGraph as ValidGraph}
 use Rattle.paper.specs.ProofWords.{front}
 use Rattle.paper.specs.Caching.{left-over}
 use Rattle.paper.proofs.Bools.{by-bool, not-both, to-false, mem-nil, mem-pick, pick-ext}
@@ -24,7 +24,7 @@ use Rattle.tables.specs.Valid.{Sound}
 use Rattle.tables.specs.DepsLaws.{valid-graph}
 use Rattle.walk.specs.Marks.{marked, MarkedBy}
 use Rattle.walk.specs.MarkLaws.{marked-by}
-use Rattle.walk.specs.Rows.{cached, Right, Walkable}
+use Rattle.walk.specs.Rows.{cached, RowsRight, Walkable}
 use Rattle.walk.specs.RowLaws.{own-below, actor-low}
 use Rattle.walk.specs.Walk.{Merged, Visited, WalkDone}
 
@@ -85,7 +85,7 @@ module _ (t : Tables) (width : ℕ) (clock₀ marks : List ℕ) (k : ℕ) (w : W
 
   -- the row is cached: it is merged
   pub visit-kept : (clock′ : List ℕ) → 0 < getD (t .clocks) (k * width + actorAt (t .nodes) k) 0 → Merged (t .clocks) (k * width) (set clock₀ (actorAt (t .nodes) k) v) clock′ → Visited t k clock₀ marks clock′ (set marks k 0) true
-  unfolding Right
+  unfolding RowsRight
   visit-kept clock′ h m =
       let on : cached t k ≡ true = lt-ltb 0 (entryAt t k (actorAt (t .nodes) k)) (rw (w .wide) at h) in
       let n : length (set clock₀ (actorAt (t .nodes) k) v) ≡ length clock₀ = length-set clock₀ (actorAt (t .nodes) k) v in

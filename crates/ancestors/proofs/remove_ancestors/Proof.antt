@@ -6,7 +6,7 @@ use lib.ListN.{length}
 use denote.Ref.{now}
 use borrow.Author.Needs.{needs}
 use Rattle.tables.specs.Tables.{Tables, tables, graph}
-use Rattle.answer_buffer.specs.Answers.{listed, filled}
+use Rattle.answer_buffer.specs.Answers.{listAnswer, filled}
 use Rattle.answer_buffer.specs.Room.{room}
 use Rattle.ancestors.specs.AncestorLaws.{removed-bytes, list-bad, list-unfilled, heads-bad, heads-unfilled, removed-good, filled-good}
 use Rattle.ancestors.proofs.remove_ancestors.Statement.{statement}
@@ -23,7 +23,7 @@ returns-2 c = let s = c .before .before .before .before .before .before .before 
 
 returns-3 : tie.Need-returns-3
 returns-3 c = let s = c .before .before .before .before .before .before .before .before .before .before .before .before .before .before .before .before .before .before .before .before in let b = removed-bytes (T s) (s .pre) (now (s .args .list)) (now (s .args .heads)) 4096 (room (T s) (s .pre) .few) (c .before .before .before .before .before .before .history-of .ensures) in (
-  c .before .before .kept-into .ensures .0 ∙ ap (λ (l : List ℕ). listed l (length (now (s .args .out)))) b ∙ sym (removed-good (graph (T s)) _ _ (c .before .before .before .before .before .before .before .before .before .before .if1 .left) (c .before .before .before .before .before .before .before .before .before .if2 .left) _),
+  c .before .before .kept-into .ensures .0 ∙ ap (λ (l : List ℕ). listAnswer l (length (now (s .args .out)))) b ∙ sym (removed-good (graph (T s)) _ _ (c .before .before .before .before .before .before .before .before .before .before .if1 .left) (c .before .before .before .before .before .before .before .before .before .if2 .left) _),
   c .before .before .kept-into .ensures .1 ∙ ap (λ (l : List ℕ). filled l (now (s .args .out))) b ∙ sym (filled-good (graph (T s)) _ _ (c .before .before .before .before .before .before .before .before .before .before .if1 .left) (c .before .before .before .before .before .before .before .before .before .if2 .left) _),
 )
 

@@ -1,7 +1,7 @@
 -- `benchmark_cores::bare_add` meets its contract: it is what the core promises, and the core's number. Assumes nothing.
 use mathlib.Core.Path.{ap, _∙_}
 use borrow.Author.Needs.{needs}
-use Rattle.judge.specs.Judge.{numberOf}
+use Rattle.judge.specs.Judge.{judgedNumber}
 use Rattle.benchmark_cores.proofs.bare_add.Statement.{statement}
 use Rattle.benchmark_cores.proofs.bare_add.Tie as tie
 
@@ -39,7 +39,7 @@ same-length-6 c = search needs
 
 -- src/lib.rt:18:1
 returns : tie.Need-returns
-returns c = let o = c .before .before .before .before .before .before .before .before .before .before .before .before .before .add .ensures in (c .number .ensures ∙ ap numberOf (o .0), o .1)
+returns c = let o = c .before .before .before .before .before .before .before .before .before .before .before .before .before .add .ensures in (c .number .ensures ∙ ap judgedNumber (o .0), o .1)
 
 pub bare-add-spec : {M : Type 1} → statement M
 bare-add-spec =

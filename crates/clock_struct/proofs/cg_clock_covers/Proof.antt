@@ -41,7 +41,7 @@ use denote.Triple.Table.{entered, cited}
 use denote.Triple.Walked.{says, Stays, gave-ref, stay-none-ref, walkOf, goes-gave-ref, goes-none-ref, Walks, ends-at, walked, walk-meets}
 use denote.Exit.{yes}
 use denote.Signature.{plain}
-use Rattle.clock_struct.specs.Clocks.{asked, coversAsked}
+use Rattle.clock_struct.specs.Clocks.{struct-asked, coversAsked}
 use Rattle.clock_struct.specs.declared.Clock.{Clock}
 use Rattle.clock_struct.proofs.Clock as T
 use Rattle.clock_struct.proofs.Clock.Laws as T′
@@ -67,7 +67,7 @@ At 𝓤 H A mem run = tripleOf 𝓤 H A at′.signature (at′.spec 𝓤 H A mem
 
 -- what the callee says of its result and the last yes or no
 abbrev Said : Clock → Clock → ℕ → ℕ → ℕ → Type 0
-Said h h′ old r y = asked r y ≡ coversAsked (h .entries) (h .count) (h′ .entries) (h′ .count) old
+Said h h′ old r y = struct-asked r y ≡ coversAsked (h .entries) (h .count) (h′ .entries) (h′ .count) old
 
 -- what each place lent at the end holds
 abbrev Last : Type 0

@@ -41,7 +41,7 @@ use denote.Triple.Table.{entered, cited}
 use denote.Triple.Walked.{says, Stays, stay-ref, stay-none, gave-ref, walkOf, goes-ref, goes-none, goes-gave-ref, Walks, ends-at, walked, walk-meets}
 use denote.Exit.{yes}
 use denote.Signature.{plain}
-use Rattle.clock_struct.specs.Clocks.{done, includeDone}
+use Rattle.clock_struct.specs.Clocks.{struct-done, includeDone}
 use Rattle.clock_struct.specs.declared.Clock.{Clock}
 use Rattle.clock_struct.proofs.Clock as T
 use Rattle.clock_struct.proofs.Clock.Laws as T′
@@ -67,7 +67,7 @@ At 𝓤 H A mem run = tripleOf 𝓤 H A at′.signature (at′.spec 𝓤 H A mem
 
 -- what the callee says of its result, the last yes or no and the last list
 abbrev Said : Clock → ℕ → ℕ → ℕ → ℕ → ℕ → List ℕ → Type 0
-Said h n v old r y zs = done r y zs ≡ includeDone (h .entries) (h .count) n v old
+Said h n v old r y zs = struct-done r y zs ≡ includeDone (h .entries) (h .count) n v old
 
 -- what each place lent at the end holds
 abbrev Last : Type 0

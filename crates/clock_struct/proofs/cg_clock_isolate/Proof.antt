@@ -41,7 +41,7 @@ use denote.Triple.Table.{entered, cited}
 use denote.Triple.Walked.{says, Stays, stay-ref, stay-none, walkOf, goes-ref, goes-none, Walks, ends-at, walked, walk-meets}
 use denote.Exit.{yes}
 use denote.Signature.{plain}
-use Rattle.clock_struct.specs.Clocks.{done, isolateDone}
+use Rattle.clock_struct.specs.Clocks.{struct-done, isolateDone}
 use Rattle.clock_struct.specs.declared.Clock.{Clock}
 use Rattle.clock_struct.proofs.Clock as T
 use Rattle.clock_struct.proofs.Clock.Laws as T′
@@ -67,7 +67,7 @@ At 𝓤 H A mem run = tripleOf 𝓤 H A at′.signature (at′.spec 𝓤 H A mem
 
 -- what the callee says of its result and the last list
 abbrev Said : Clock → ℕ → ℕ → List ℕ → Type 0
-Said h n r zs = done r 0 zs ≡ isolateDone (h .entries) (h .count) n
+Said h n r zs = struct-done r 0 zs ≡ isolateDone (h .entries) (h .count) n
 
 -- what each place lent at the end holds
 abbrev Last : Type 0

@@ -5,7 +5,7 @@ use mathlib.Core.Bool.{Bool, true, _&&_}
 use mathlib.Core.List.{List}
 use lib.ListN.{length, take}
 use borrow.Author.Tests.{not-true, not-false}
-use Rattle.paper.specs.Loading.{Columns, listed}
+use Rattle.paper.specs.Loading.{Columns, listed-changes}
 use Rattle.columns.specs.Columns.{columns, total, headsRight, lengthsTest, actorsTest, opsTest, enoughTest, depsTest, runsTest, newTest}
 use Rattle.columns.specs.ColumnsLaws.{stop, go-on, Lengths, lengths-of, enough-of, used-part, checks-agree}
 use borrow.Author.Needs.{needs}
@@ -61,10 +61,10 @@ p6 c = sym (c .before .sequences-run .ensures) ∙ not-false _ (c .if6 .left)
 p7 : (c : tie.Else7) → newTest (C (S7 c)) ≡ true
 p7 c = sym (c .before .distinct .ensures) ∙ not-false _ (c .if7 .left)
 
-lengths : (c : tie.Else1) → Lengths (listed (C (S1 c))) (length (C (S1 c) .actors)) (length (C (S1 c) .seqs)) (length (C (S1 c) .max-ops)) (length (C (S1 c) .op-counts)) (length (C (S1 c) .dep-counts))
+lengths : (c : tie.Else1) → Lengths (listed-changes (C (S1 c))) (length (C (S1 c) .actors)) (length (C (S1 c) .seqs)) (length (C (S1 c) .max-ops)) (length (C (S1 c) .op-counts)) (length (C (S1 c) .dep-counts))
 lengths c = lengths-of _ _ _ _ _ _ (p1 c)
 
-enough : (c : tie.Else4) → total (C (S4 c) .dep-counts) (listed (C (S4 c))) ≤ length (C (S4 c) .dep-values)
+enough : (c : tie.Else4) → total (C (S4 c) .dep-counts) (listed-changes (C (S4 c))) ≤ length (C (S4 c) .dep-values)
 enough c = enough-of (C (S4 c)) (p4 c)
 
 returns : tie.Need-returns
@@ -110,7 +110,7 @@ part-heads-right-end : tie.Need-part-heads-right-end
 part-heads-right-end c = omega (arith, c .dep-count .ensures, enough (c .before .before .before .before .before .before .before))
 
 returns-8 : tie.Need-returns-8
-returns-8 c = let s = S7 (c .before .before .before) in go-on _ _ _ (p1 (c .before .before .before .before .before .before .before .before .before .before .before .before .before .before .before)) (go-on _ _ _ (p2 (c .before .before .before .before .before .before .before .before .before .before .before .before .before)) (go-on _ _ _ (p3 (c .before .before .before .before .before .before .before .before .before .before .before)) (go-on _ _ _ (p4 (c .before .before .before .before .before .before .before .before .before)) (go-on _ _ _ (p5 (c .before .before .before .before .before .before .before)) (go-on _ _ _ (p6 (c .before .before .before .before .before)) (go-on _ _ _ (p7 (c .before .before .before)) (c .heads-right .ensures ∙ ap (λ (v : List ℕ). headsRight (s .args .hashes .now) (listed (C s)) v (s .args .heads .now)) (used-part (s .args .values .now) _ _ (c .before .before .dep-count .ensures))))))))) ∙ checks-agree (C s)
+returns-8 c = let s = S7 (c .before .before .before) in go-on _ _ _ (p1 (c .before .before .before .before .before .before .before .before .before .before .before .before .before .before .before)) (go-on _ _ _ (p2 (c .before .before .before .before .before .before .before .before .before .before .before .before .before)) (go-on _ _ _ (p3 (c .before .before .before .before .before .before .before .before .before .before .before)) (go-on _ _ _ (p4 (c .before .before .before .before .before .before .before .before .before)) (go-on _ _ _ (p5 (c .before .before .before .before .before .before .before)) (go-on _ _ _ (p6 (c .before .before .before .before .before)) (go-on _ _ _ (p7 (c .before .before .before)) (c .heads-right .ensures ∙ ap (λ (v : List ℕ). headsRight (s .args .hashes .now) (listed-changes (C s)) v (s .args .heads .now)) (used-part (s .args .values .now) _ _ (c .before .before .dep-count .ensures))))))))) ∙ checks-agree (C s)
 
 pub agree-spec : {M : Type 1} → statement M
 agree-spec =

@@ -45,7 +45,7 @@ use denote.Triple.Clauses.{ensured, lasts}
 use denote.Triple.Table.{entered, cited}
 use denote.Triple.Walked.{says, Stays, stay-none, stay-none-slice, stay-slice, walkOf, goes-none, goes-none-slice, goes-slice, Walks, ends-at, walked, walk-meets}
 use denote.Exit.{yes}
-use Rattle.edges.specs.Edges.{noEdge, goesOn, listed}
+use Rattle.edges.specs.Edges.{noEdge, goesOn, parentsIn}
 use Rattle.edges.specs.declared.Edge.{Edge}
 use Rattle.edges.proofs.Again.{LentAgain, lends-again, comes-back}
 use Rattle.edges.specs.WalkLaws.{Walking, walking-start, goes-yes, walking-next, walking-more, walking-end}
@@ -132,7 +132,7 @@ module _ {M : Type 1} (𝓤 : URA M) (H : Heap 𝓤) (A : Atoms 𝓤) (W : Given
   abbrev Post : Val → SProp 𝓤
   Post = walkOf 𝓤 H A f.ended stayed (f.clauses 𝓤 H A mem run) .post (((κ, (κ′, tt)), (q, (q′, tt)), tt, a, vals), tt)
 
-  exits : (n : ℕ) (ws : List ℕ) → n < 2 ^ 64 → length ws ≡ length ws₀ → (n ≡ length (listed es k ws₀)) × (ws ≡ listed es k ws₀ ++ dropL n ws₀)
+  exits : (n : ℕ) (ws : List ℕ) → n < 2 ^ 64 → length ws ≡ length ws₀ → (n ≡ length (parentsIn es k ws₀)) × (ws ≡ parentsIn es k ws₀ ++ dropL n ws₀)
       → ent 𝓤 (⋆ 𝓤 H A (‵ (Out′ ws (length ws)) ∷ ‵ (flft κ′ q′) ∷ ‵ (flft κ q) ∷ ‵ Own ∷ [])) (Post (vint w64 n))
   exits n ws n-fits l e =
       qed W (‵ (Out′ ws (length ws)) ∷ ‵ (flft κ′ q′) ∷ ‵ (flft κ q) ∷ ‵ Own ∷ []) ∵ rewrite ! 0 (λ (m : ℕ). ‵ (Out′ ws m)) l refl $

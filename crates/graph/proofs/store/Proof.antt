@@ -13,7 +13,7 @@ use lib.Seq.{slice}
 use denote.Ref.{now}
 use Rattle.tables.specs.Tables.{Tables, tables, changes, edges}
 use Rattle.paper.specs.Adding.{Change}
-use Rattle.judge.specs.Judge.{change, depCount}
+use Rattle.judge.specs.Judge.{change, depsGiven}
 use Rattle.judge.specs.JudgeLaws.{Accepted, accepted}
 use Rattle.graph.specs.Place.{unheaded, withNode, depsOf}
 use Rattle.graph.specs.PlaceLaws.{same-tables, Fits, fits, unheaded-long, new-targets-low, new-targets, stored-targets-long}
@@ -47,7 +47,7 @@ flags-now : (c : tie.After-clear-heads) → c .clear-heads .last .0 ≡ unheaded
 flags-now c =
     let s = c .before .before .before .before .before .before .before .before .before .before .before .before .before .before .before .before .before .before .before .before .before .before .before .before .before in
     c .clear-heads .ensures
-    ∙ ap (λ (l : List ℕ). unheaded (slice (edges (T s)) (edges (T s) + depCount (X s)) l) (T s .nodes)) (targets-now (c .before .before .before .before .before .before .before .before .before))
+    ∙ ap (λ (l : List ℕ). unheaded (slice (edges (T s)) (edges (T s) + depsGiven (X s)) l) (T s .nodes)) (targets-now (c .before .before .before .before .before .before .before .before .before))
     ∙ ap (λ (l : List ℕ). unheaded l (T s .nodes)) (new-targets (T s) (X s) (ok s) (room s))
 
 nodes-now : (c : tie.After-put-node) → c .put-node .last .0 ≡ stored (T (c .before .before .before .before .before .before .before .before .before .before .before .before .before .before .before .before .before .before .before .before .before .before .before .before .before .before .before .before .before .before)) (X (c .before .before .before .before .before .before .before .before .before .before .before .before .before .before .before .before .before .before .before .before .before .before .before .before .before .before .before .before .before .before)) .nodes

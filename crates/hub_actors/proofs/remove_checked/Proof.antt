@@ -5,8 +5,8 @@ use denote.Ref.{now}
 use Rattle.list_laws.specs.Iff.{failed}
 use Rattle.tables.specs.Tables.{Tables, tables}
 use Rattle.tables.specs.Valid.{Valid}
-use Rattle.actors.specs.Actors.{numberOf, removed, ifDone}
-use Rattle.actors.specs.declared.Numbered.{Numbered}
+use Rattle.actors.specs.Actors.{actorNumber, actorRemoved, ifActorsDone}
+use Rattle.actors.specs.declared.ActorAnswer.{ActorAnswer}
 use borrow.Author.Needs.{needs}
 use Rattle.hub_actors.proofs.remove_checked.Statement.{statement}
 use Rattle.hub_actors.proofs.remove_checked.Tie as tie
@@ -66,7 +66,7 @@ same-length-6 c = search needs
 returns-2 : tie.Need-returns-2
 returns-2 c =
     let o = c .before .before .before .before .before .before .before .remove-actor .ensures in record {
-      met = λ _. (c .number .ensures ∙ ap numberOf (o .0), o .1 ∙ ap (λ (j : Numbered). ifDone j (removed (T (begin c)) (begin c .args .place)) (T (begin c))) (o .0));
+      met = λ _. (c .number .ensures ∙ ap actorNumber (o .0), o .1 ∙ ap (λ (j : ActorAnswer). ifActorsDone j (actorRemoved (T (begin c)) (begin c .args .place)) (T (begin c))) (o .0));
       unmet = λ w. absurd (w (right (c .before .before .before .before .before .before .before .before .before .before .before)));
     }
 

@@ -5,7 +5,7 @@ use denote.Ref.{now}
 use Rattle.list_laws.specs.Iff.{failed}
 use Rattle.tables.specs.Tables.{Tables, tables}
 use Rattle.tables.specs.Valid.{Valid}
-use Rattle.judge.specs.Judge.{numberOf}
+use Rattle.judge.specs.Judge.{judgedNumber}
 use Rattle.judge.specs.declared.Judged.{Judged}
 use Rattle.hub_add.specs.Operations.{unknownIn}
 use borrow.Author.Needs.{needs}
@@ -28,7 +28,7 @@ add-requires c κs = right (c .before .before .before .before .before .before)
 
 returns-2 : tie.Need-returns-2
 returns-2 c = let o = c .before .before .before .before .before .before .before .before .before .before .before .before .before .before .before .before .before .add .ensures in record {
-  tables = record { met = λ _. (c .number .ensures ∙ ap numberOf (o .0), o .1); unmet = λ w. absurd (w (right (c .before .before .before .before .before .before .before .before .before .before .before .before .before .before .before .before .before .before .before .before .before .before .before .before))) };
+  tables = record { met = λ _. (c .number .ensures ∙ ap judgedNumber (o .0), o .1); unmet = λ w. absurd (w (right (c .before .before .before .before .before .before .before .before .before .before .before .before .before .before .before .before .before .before .before .before .before .before .before .before))) };
   place = record { met = λ _. c .before .before .before .tell-unknown .ensures ∙ ap (λ (j : Judged). unknownIn j (now (c .before .before .before .before .before .before .before .before .before .before .before .before .before .before .before .before .before .before .before .before .before .before .before .before .before .before .before .before .before .before .before .before .before .before .before .before .before .before .before .before .before .args .unknown))) (o .0); unmet = λ w. absurd (w (right (c .before .before .before .before .before .before .before .before .before .before .before .before .before .before .before .before .before .before .before .before .before .before .before .before))) };
 }
 

@@ -5,8 +5,8 @@ use denote.Ref.{now}
 use Rattle.list_laws.specs.Iff.{failed}
 use Rattle.tables.specs.Tables.{Tables, tables}
 use Rattle.tables.specs.Valid.{Lengths}
-use Rattle.actors.specs.Actors.{numberOf, opened, ifDone}
-use Rattle.actors.specs.declared.Numbered.{Numbered}
+use Rattle.actors.specs.Actors.{actorNumber, opened, ifActorsDone}
+use Rattle.actors.specs.declared.ActorAnswer.{ActorAnswer}
 use borrow.Author.Needs.{needs}
 use Rattle.hub_open.proofs.open_checked.Statement.{statement}
 use Rattle.hub_open.proofs.open_checked.Tie as tie
@@ -50,7 +50,7 @@ same-length-2 c = search needs
 returns-2 : tie.Need-returns-2
 returns-2 c =
     let o = c .before .before .before .open-empty .ensures in record {
-      met = λ _. (c .number .ensures ∙ ap numberOf (o .0), o .1 ∙ ap (λ (j : Numbered). ifDone j (opened (T (begin c)) (begin c .args .actors)) (T (begin c))) (o .0));
+      met = λ _. (c .number .ensures ∙ ap actorNumber (o .0), o .1 ∙ ap (λ (j : ActorAnswer). ifActorsDone j (opened (T (begin c)) (begin c .args .actors)) (T (begin c))) (o .0));
       unmet = λ w. absurd (w (agree (c .before .before .before .before .before)));
     }
 

@@ -6,7 +6,7 @@ use lib.ListN.{length, take, drop, replicate}
 use denote.Ref.{now}
 use Rattle.tables.specs.Tables.{Tables, tables}
 use Rattle.judge.specs.Judge.{change}
-use Rattle.graph.specs.Place.{added}
+use Rattle.graph.specs.Place.{addedTables}
 use Rattle.hash.specs.HashLaws.{hash-part}
 use Rattle.load.specs.LoadLaws.{put-part}
 use borrow.Author.Needs.{needs}
@@ -20,7 +20,7 @@ T s = tables (now (s .args .hashes)) (now (s .args .nodes)) (now (s .args .targe
 returns : tie.Need-returns
 returns c = let s = c .before .before .before .before .before .before .before .before .before .before .before .before .before .before .before .before .before .before .before .before .before .before .before .before .before .before .before .before .before .before .before .before .before in
     c .before .before .before .before .before .before .before .before .before .before .before .before .add .ensures .1
-    ∙ ap₂ (λ (h ds : List ℕ). added (T s) (change h (s .args .actor) (s .args .seq) (s .args .max) (s .args .ops) ds))
+    ∙ ap₂ (λ (h ds : List ℕ). addedTables (T s) (change h (s .args .actor) (s .args .seq) (s .args .max) (s .args .ops) ds))
     (hash-part (s .args .ids .now) (s .args .k))
     (ap (λ (x : List ℕ). take (32 * length (s .args .deps .now) - 0) (drop 0 x)) (c .before .before .before .before .before .before .before .before .before .before .before .before .before .before .before .before .before .before .before .before .before .before .before .put-hashes .ensures) ∙ put-part (s .args .ids .now) (s .args .deps .now) (drop (32 * length (s .args .deps .now)) (replicate 1024 0)) (s .pre .1 .2))
 

@@ -6,7 +6,7 @@ use mathlib.Core.List.{List, []}
 use lib.ListN.{length, getD}
 use native.Mathlib.Omega.{arith}
 use denote.Ref.{now}
-use Rattle.paper.specs.Loading.{Columns, listed}
+use Rattle.paper.specs.Loading.{Columns, listed-changes}
 use Rattle.tables.specs.Tables.{tables}
 use Rattle.columns.specs.Columns.{columns}
 use Rattle.load.specs.LoadLaws.{Filled, filled-start, filled-valid, lent-fits, lent-few, lent-inside, filled-next, filled-end}
@@ -29,7 +29,7 @@ abbrev S : tie.In-loop Inv-loop μ-loop → tie.Start Inv-loop μ-loop
 S c = c .before .before .before .before .before .before .before .before .before .before .before .before .before .before .before
 
 -- change k is listed
-here : (c : tie.In-loop Inv-loop μ-loop) → c .before .loop .k < listed (C (S c))
+here : (c : tie.In-loop Inv-loop μ-loop) → c .before .loop .k < listed-changes (C (S c))
 here c = omega arith
 
 fits : (c : tie.In-loop Inv-loop μ-loop) → c .before .loop .at + getD (C (S c) .dep-counts) (c .before .loop .k) 0 ≤ length (C (S c) .dep-values)

@@ -11,7 +11,7 @@ use Rattle.paper.specs.Loading.{Columns, judged-load}
 use Rattle.paper.proofs.Loading.{agreed}
 use Rattle.tables.specs.Tables.{Tables, tables, changeRoom, edgeRoom, actorRoom}
 use Rattle.graph.specs.Life.{adds}
-use Rattle.columns.specs.Columns.{columns, outcomeOf}
+use Rattle.columns.specs.Columns.{columns, loadingOutcome}
 use Rattle.load.specs.Load.{loading}
 use Rattle.load.specs.DoneLaws.{Taken, taken, loaded-done, loaded-refused, stored, stored-valid, fillable, same-changes}
 use borrow.Author.Needs.{needs}
@@ -26,7 +26,7 @@ abbrev C : tie.Start → Columns
 C s = columns (s .args .ids .now) (s .args .actors .now) (s .args .seqs .now) (s .args .maxes .now) (s .args .ops .now) (s .args .deps .now) (s .args .values .now) (s .args .heads .now) (s .args .count)
 
 -- the judgement is over the tables' room
-told : (c : tie.After-judge) → outcomeOf (c .judge .result) ≡ loading (T (c .before .before .before .before .before .before .before .before .before .before .before .before .before .before .before .before .before .before)) (C (c .before .before .before .before .before .before .before .before .before .before .before .before .before .before .before .before .before .before))
+told : (c : tie.After-judge) → loadingOutcome (c .judge .result) ≡ loading (T (c .before .before .before .before .before .before .before .before .before .before .before .before .before .before .before .before .before .before)) (C (c .before .before .before .before .before .before .before .before .before .before .before .before .before .before .before .before .before .before))
 told c = c .judge .ensures ∙ ap (λ (a : ℕ). judged-load (changeRoom (T (c .before .before .before .before .before .before .before .before .before .before .before .before .before .before .before .before .before .before))) (edgeRoom (T (c .before .before .before .before .before .before .before .before .before .before .before .before .before .before .before .before .before .before))) a (C (c .before .before .before .before .before .before .before .before .before .before .before .before .before .before .before .before .before .before))) (c .before .actor-room .ensures)
 
 counted : (c : tie.After-number) → c .number .result ≡ number (loading (T (c .before .before .before .before .before .before .before .before .before .before .before .before .before .before .before .before .before .before .before)) (C (c .before .before .before .before .before .before .before .before .before .before .before .before .before .before .before .before .before .before .before)))

@@ -8,7 +8,7 @@ use borrow.Author.Needs.{needs}
 use Rattle.tables.specs.Tables.{Tables, tables, graph, changes}
 use Rattle.answer_buffer.specs.Room.{room}
 use Rattle.paper.specs.Graph.{change-at}
-use Rattle.answer_buffer.specs.Answers.{listed, filled}
+use Rattle.answer_buffer.specs.Answers.{listAnswer, filled}
 use Rattle.paper.specs.Lists.{hashAt}
 use Rattle.tables.specs.Node.{foundAs}
 use Rattle.tables.specs.NodeLaws.{at-node, at-low, unknown-high}
@@ -47,7 +47,7 @@ hash-into-requires c κs = let e = is (c .before .before) in let l = low (c .bef
 
 returns-2 : tie.Need-returns-2
 returns-2 c = let s = c .before .before .before .before .before .before .before .before .before .before .before .before .before .before .before .before in (
-  c .before .before .hash-into .ensures .0 ∙ ap (λ (k : ℕ). listed (hashAt (s .args .hashes .now) k) (length (s .args .out .now))) (sym (is (c .before .before .before .before .before))) ∙ sym (node-told (graph (T s)) (K s) _ _ (low (c .before .before .before .before .before))),
+  c .before .before .hash-into .ensures .0 ∙ ap (λ (k : ℕ). listAnswer (hashAt (s .args .hashes .now) k) (length (s .args .out .now))) (sym (is (c .before .before .before .before .before))) ∙ sym (node-told (graph (T s)) (K s) _ _ (low (c .before .before .before .before .before))),
   c .before .before .hash-into .ensures .1 ∙ ap (λ (k : ℕ). filled (hashAt (s .args .hashes .now) k) (s .args .out .now)) (sym (is (c .before .before .before .before .before))) ∙ sym (node-filled (graph (T s)) (K s) _ (low (c .before .before .before .before .before))),
 )
 

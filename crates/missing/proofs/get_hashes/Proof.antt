@@ -8,7 +8,7 @@ use native.Mathlib.Omega.{arith}
 use borrow.Author.Needs.{needs}
 use Rattle.tables.specs.Tables.{Tables, tables, graph}
 use Rattle.answer_buffer.specs.Room.{room}
-use Rattle.answer_buffer.specs.Answers.{listed, filled}
+use Rattle.answer_buffer.specs.Answers.{listAnswer, filled}
 use Rattle.missing.specs.MissingLaws.{missing-is, within, bad-told, bad-filled, empty-told, empty-filled, list-told, list-filled}
 use Rattle.missing.proofs.get_hashes.Statement.{statement}
 use Rattle.missing.proofs.get_hashes.Tie as tie
@@ -27,7 +27,7 @@ above-into-requires c κs = let s = c .before .before .before .before .before .b
 
 returns-3 : tie.Need-returns-3
 returns-3 c = let s = c .before .before .before .before .before .before .before .before .before .before .before .before .before .before .before .before .before .before .before in let m = missing-is (T s) (s .pre) (now (s .args .have)) _ _ (c .before .before .before .before .before .before .list-clock .ensures) in (
-  c .before .before .above-into .ensures .0 ∙ ap (λ (x : List ℕ). listed x (length (now (s .args .out)))) m ∙ sym (list-told (graph (T s)) (now (s .args .have)) (c .before .before .before .before .before .before .before .before .before .before .if1 .left) (c .before .before .before .before .before .before .before .before .if2 .left) _),
+  c .before .before .above-into .ensures .0 ∙ ap (λ (x : List ℕ). listAnswer x (length (now (s .args .out)))) m ∙ sym (list-told (graph (T s)) (now (s .args .have)) (c .before .before .before .before .before .before .before .before .before .before .if1 .left) (c .before .before .before .before .before .before .before .before .if2 .left) _),
   c .before .before .above-into .ensures .1 ∙ ap (λ (x : List ℕ). filled x (now (s .args .out))) m ∙ sym (list-filled (graph (T s)) (now (s .args .have)) (c .before .before .before .before .before .before .before .before .before .before .if1 .left) (c .before .before .before .before .before .before .before .before .if2 .left) _),
 )
 

@@ -6,7 +6,7 @@ use mathlib.Core.Bool.{Bool, not, cond}
 use Rattle.paper.specs.Lists.{count}
 use Rattle.paper.specs.Lists.{hashAt, hashes-from}
 use Rattle.hash.specs.HashLaws.{hash-part}
-use Rattle.ready.specs.Tables.{unknownIn}
+use Rattle.ready.specs.Tables.{noneOf}
 use Rattle.ready.specs.OpenLaws.{along-start, along-next, along-end}
 use borrow.Author.Needs.{needs}
 use native.Mathlib.Omega.{arith}
@@ -15,7 +15,7 @@ use Rattle.ready.proofs.count_unknown.Tie as tie
 
 abbrev Inv-loop : tie.InvT-loop
 Inv-loop graph n deps first m total₀ j₀ total j =
-    (j ≤ m) × (total ≤ j) × (total + count (unknownIn graph n) (hashes-from deps (m - j) (first + j)) ≡ count (unknownIn graph n) (hashes-from deps m first))
+    (j ≤ m) × (total ≤ j) × (total + count (noneOf graph n) (hashes-from deps (m - j) (first + j)) ≡ count (noneOf graph n) (hashes-from deps m first))
 
 abbrev μ-loop : tie.MeasureT-loop
 μ-loop graph n deps first m total₀ j₀ total j = m - j
@@ -29,8 +29,8 @@ add-total c = omega (arith, c .bit .ensures)
 -- the call asks for hash j of the list
 told : (c : tie.After-bit Inv-loop μ-loop)
     → let st = c .before .before .before .before .before .before .before in
-    c .bit .result ≡ cond (unknownIn (st .args .graph .now) (st .args .n) (hashAt (st .args .deps .now) (st .args .first + c .before .before .before .before .loop .j))) 1 0
-unfolding unknownIn
+    c .bit .result ≡ cond (noneOf (st .args .graph .now) (st .args .n) (hashAt (st .args .deps .now) (st .args .first + c .before .before .before .before .loop .j))) 1 0
+unfolding noneOf
 told c = c .bit .ensures .0 ∙ ap (λ (b : Bool). cond (not b) 1 0) (rw hash-part at (c .before .is-known .ensures))
 
 loop-again : tie.Need-loop-again Inv-loop μ-loop

@@ -2,7 +2,7 @@
 use Prim.Native.Nat.{_≤_, _-_}
 use mathlib.Core.Path.{_≡_, sym, _∙_}
 use Rattle.list_laws.specs.Iff.{Below, below-start, below-next, below-end, below-no}
-use Rattle.tables.specs.Valid.{Distinct}
+use Rattle.tables.specs.Valid.{HashesDistinct}
 use Rattle.tables.specs.CheckLaws.{Fresh, fresh, stale}
 use Rattle.paper.specs.Lists.{hashAt}
 use Rattle.hash.specs.Hash.{findHash}
@@ -26,14 +26,14 @@ loop-holds : tie.Need-loop-holds Inv-loop μ-loop
 loop-holds c = (search needs, below-start _)
 
 returns : tie.Need-returns Inv-loop μ-loop
-unfolding Distinct
+unfolding HashesDistinct
 returns c = below-no (Fresh (now (c .before .before .before .before .before .before .before .args .hashes))) _ _ (c .before .before .before .before .loop-test .taken) (stale _ _ _ (sym (told (c .before .before)) ∙ c .enum-told2 .given .1))
 
 loop-again : tie.Need-loop-again Inv-loop μ-loop
 loop-again c = (search needs, below-next (c .before .before .before .before .before .loop .inv .1) (fresh _ _ (sym (told (c .before .before)) ∙ c .enum-told .given .1)))
 
 returns-2 : tie.Need-returns-2 Inv-loop μ-loop
-unfolding Distinct
+unfolding HashesDistinct
 returns-2 c = below-end _ (c .before .loop .inv .1) (c .loop-test .left)
 
 pub distinct-spec : {M : Type 1} → statement M

@@ -6,7 +6,7 @@ use native.Mathlib.Omega.{arith}
 use borrow.Author.Needs.{needs}
 use borrow.Author.Tests.{not-true, not-false}
 use Rattle.list_laws.specs.Iff.{failed}
-use Rattle.waiting.specs.Valid.{Laid, OpenedTo}
+use Rattle.waiting.specs.Valid.{StoreLaid, OpenedTo}
 use Rattle.waiting.proofs.open_empty.Statement.{statement}
 use Rattle.waiting.proofs.open_empty.Tie as tie
 

@@ -4,13 +4,13 @@ use native.Mathlib.Omega.{arith}
 use borrow.Author.Needs.{needs}
 use borrow.Author.Tests.{leb-true, le-leb, not-true, not-false}
 use Rattle.list_laws.specs.Iff.{no as refused, failed}
-use Rattle.waiting.specs.Valid.{Laid}
+use Rattle.waiting.specs.Valid.{StoreLaid}
 use Rattle.waiting.proofs.sized.Statement.{statement}
 use Rattle.waiting.proofs.sized.Tie as tie
 
 told : (c : tie.Else1)
     → let st = c .before .before .before .before .before .before in
-    Laid (st .args .hashes .now) (st .args .numbers .now) (st .args .deps .now) (st .args .count .now)
+    StoreLaid (st .args .hashes .now) (st .args .numbers .now) (st .args .deps .now) (st .args .count .now)
 told c = c .before .laid .ensures .0 (not-false _ (c .if1 .left))
 
 returns : tie.Need-returns
