@@ -1,6 +1,6 @@
 #!/usr/bin/env bash
-# Shows that docs/PROMISES.md names only what exists: each name between backquotes is a crate, a file, a must-fail edit, or a word of the crates' code,
-# definitions and proofs. Prints what is not found; exit status 1 where anything is not.
+# Shows that the pages on what is proved (docs/PROMISES.md, CORES.md, DEMANDS.md, READING.md) name only what exists: each name between backquotes is a
+# crate, a file, a must-fail edit, or a word of the crates' code, definitions and proofs. Prints what is not found; exit status 1 where anything is not.
 set -euo pipefail
 cd "$(dirname "$0")/.."
 words="$(mktemp)"
@@ -13,25 +13,27 @@ trap 'rm -f "$words"' EXIT
 missing=0
 count=0
 section=""
-while IFS= read -r line; do
-  case "$line" in '## '*) section="$(printf '%s' "$line" | sed 's/^## `\{0,1\}\([^`]*\)`\{0,1\}.*/\1/')" ;; esac
-  while IFS= read -r name; do
-    [ -n "$name" ] || continue
-    count=$((count + 1))
-    case "$name" in
-    */*)
-      path="${name%%[ ,]*}"
-      [ -e "crates/$path" ] || [ -e "crates/$section/$path" ] || [ -e "$path" ] || {
-        crate="${path%%/*}" edit="${path#*/}"
-        [ -e "crates/$crate/must-fail/$edit.edit" ]
-      } || { echo "not found: $name (in $section)"; missing=$((missing + 1)); }
-      ;;
-    *)
-      word="$(printf '%s' "$name" | tr -s ' \t(){}[],;:."' '\n' | head -n 1)"
-      [ -z "$word" ] || grep -qxF -- "$word" "$words" || { echo "not found: $name (in $section)"; missing=$((missing + 1)); }
-      ;;
-    esac
-  done < <(printf '%s\n' "$line" | grep -oE '`[^`]+`' | tr -d '`')
-done <docs/PROMISES.md
+for page in PROMISES CORES DEMANDS READING; do
+  while IFS= read -r line; do
+    case "$line" in '## '*) section="$(printf '%s' "$line" | sed 's/^## `\{0,1\}\([^`]*\)`\{0,1\}.*/\1/')" ;; esac
+    while IFS= read -r name; do
+      [ -n "$name" ] || continue
+      count=$((count + 1))
+      case "$name" in
+      */*)
+        path="${name%%[ ,]*}"
+        [ -e "crates/$path" ] || [ -e "crates/$section/$path" ] || [ -e "$path" ] || {
+          crate="${path%%/*}" edit="${path#*/}"
+          [ -e "crates/$crate/must-fail/$edit.edit" ]
+        } || { echo "not found: $name (in $page, $section)"; missing=$((missing + 1)); }
+        ;;
+      *)
+        word="$(printf '%s' "$name" | tr -s ' \t(){}[],;:."' '\n' | head -n 1)"
+        [ -z "$word" ] || grep -qxF -- "$word" "$words" || { echo "not found: $name (in $page, $section)"; missing=$((missing + 1)); }
+        ;;
+      esac
+    done < <(printf '%s\n' "$line" | grep -oE '`[^`]+`' | tr -d '`')
+  done <"docs/$page.md"
+done
 echo "promises: $count names, $missing not found"
 [ "$missing" -eq 0 ]

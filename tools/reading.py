@@ -1,18 +1,22 @@
 #!/usr/bin/env python3
 """What a reader must believe of the C functions: every definition that their promises cite, directly or through others.
 
-    tools/reading.py           prints the files in reading order, each with its definitions
-    tools/reading.py --check   whether docs/READING.md lists exactly these files, in an order in which a file stands after those that it cites,
-                               and whether each word is defined once; exit status 1 where not
+    tools/reading.py           writes docs/READING.md: the files in reading order, a line each, with the definitions that are cited
+    tools/reading.py --check   whether that page is as it would be written; exit status 1 where not
 
-It reads the sources: the `ensures` of each `extern "C"` function, the `use` lines, and the definitions of specs/.
+Either way it is an error (exit status 1) where two of these files, or those of the demands, define one word. It reads the sources: the `ensures` of
+each `extern "C"` function, the `use` lines, and the definitions of specs/.
 """
 import glob
 import os
 import re
 import sys
+import textwrap
 
 os.chdir(os.path.join(os.path.dirname(os.path.abspath(__file__)), ".."))
+
+# the crates that state the demands: their words are looked at too
+DEMANDS = {"demands", "queue_books"}
 
 NAME = r"[^\s(){}\[\];,.:λ⌜⌝]+"
 HEAD = re.compile(r"^( *)(?:unfoldable |abbrev )?(?:pub )?(?:(record|data) )?(" + NAME + r")(?: [({][^:]*)* *(?:\{ℓ\} *)?: ")
@@ -172,26 +176,75 @@ def order(sources, reached):
     return done, cites
 
 
+def opening(path):
+    """What a file is for, by its first lines."""
+    words = []
+    for line in open(path, encoding="utf-8"):
+        if not line.startswith("-- ") or line.startswith("-- Assumes"):
+            break
+        words.append(line[3:].strip())
+    return " ".join(words)
+
+
+def groups():
+    """The group of each crate, by crates.txt."""
+    group, of = "", {}
+    for line in open("crates.txt", encoding="utf-8"):
+        if line.startswith("## "):
+            group = line[3:].strip()
+        elif re.match(r"[a-z_]+:", line):
+            of[line.split(":")[0]] = group
+    return of
+
+
+def page(sources, reached, listed, functions):
+    enums = sorted((crate, name) for kind, crate, name in reached if kind == "enum")
+    cited = sum(len(n) for k, n in reached.items() if k[0] == "spec")
+    out = [
+        "# What a reader must believe",
+        "",
+        f"Written by `tools/reading.py` from the sources. The promises of the {len(functions)} C functions cite {cited} definitions in {len(listed)} files, "
+        "directly or through others. Here are these files in reading order: each stands after those that it cites. After a file's own opening words stand "
+        "the definitions that are cited; on whatever else it holds, and on every file that is not listed here, no promise rests. No word is defined twice "
+        "in these files.",
+        "",
+        "Beside them are the answers that a core gives, enums of the code (a word for each number, or the number that was asked for): "
+        + ", ".join(f"`{crate}::{name}`" for crate, name in enums) + ".",
+    ]
+    of, group = groups(), None
+    for f in listed:
+        if of[f[0]] != group:
+            group = of[f[0]]
+            out += ["", "## " + group[0].upper() + group[1:], ""]
+        names = sorted(reached[("spec",) + f], key=lambda n: list(sources[f].definitions).index(n))
+        out += [f"- `{sources[f].path}`: {opening(sources[f].path)}", "  Cited: " + ", ".join(f"`{n}`" for n in names) + "."]
+    text = ""
+    for line in out:
+        text += textwrap.fill(line, 150, subsequent_indent="  " if line.startswith(("- ", "  ")) else "", break_long_words=False, break_on_hyphens=False) + "\n"
+    return text
+
+
 def main():
     sources, reached, functions = reach()
-    listed, cites = order(sources, reached)
+    listed, _ = order(sources, reached)
     words = {}
-    for (kind, crate, module), names in reached.items():
-        for n in names:
-            words.setdefault(n, []).append(f"crates/{crate}/" + ("src/lib.rt" if kind == "enum" else f"specs/{module}.antt"))
-    twice = {w: p for w, p in words.items() if len(p) > 1}
-    if "--check" not in sys.argv:
-        print(f"{len(functions)} functions")
-        for f in listed:
-            names = reached[("spec",) + f]
-            print(f"{sources[f].path} ({len(names)}): {' '.join(names)}")
-        for (kind, crate, module) in sorted(reached):
-            if kind == "enum":
-                print(f"enum {crate}::{module}")
-        for w, p in sorted(twice.items()):
-            print(f"twice: {w}: {' '.join(p)}")
-        return 0
-    return 0
+    for (kind, crate, module), _ in reached.items():
+        if kind == "enum":
+            words.setdefault(module, []).append(f"crates/{crate}/src/lib.rt")
+    for f in set(listed) | {f for f in sources if f[0] in DEMANDS}:
+        for name, text in sources[f].definitions.items():
+            if re.search(r"^ *(?:unfoldable |abbrev )?pub ", text):
+                words.setdefault(name, []).append(sources[f].path)
+    twice = {w: p for w, p in words.items() if len(set(p)) > 1}
+    for word, paths in sorted(twice.items()):
+        print(f"defined twice: {word}: {' '.join(paths)}", file=sys.stderr)
+    text = page(sources, reached, listed, functions)
+    if "--check" in sys.argv:
+        same = open("docs/READING.md", encoding="utf-8").read() == text
+        print("docs/READING.md: " + ("as written" if same else "not as written: run tools/reading.py") + f", {len(words)} words")
+        return 1 if twice or not same else 0
+    open("docs/READING.md", "w", encoding="utf-8").write(text)
+    return 1 if twice else 0
 
 
 sys.exit(main())

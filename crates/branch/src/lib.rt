@@ -165,7 +165,7 @@ pub fn remove_actor_branch_from(
     key: u64,
     from: u64,
 ) -> BranchDropped
-    ensures { λ r. ⌜ HeldOrNot (StoreValid (now (hashes .entry)) (now (numbers .entry)) (now (deps .entry)) (now (count .entry))) (r ≡ Removed.Done) (r ≡ Removed.NotValid) ⌝ }
+    ensures { λ r. ⌜ HeldOrNot (StoreValid (now (hashes .entry)) (now (numbers .entry)) (now (deps .entry)) (now (count .entry))) (r ≡ BranchDropped.Done) (r ≡ BranchDropped.NotValid) ⌝ }
     ensures { λ r. ⌜ RemovedTo r (now (hashes .entry)) (now (numbers .entry)) (now (deps .entry)) (now (count .entry)) key from (now (hashes .exit)) (now (numbers .exit)) (now (deps .exit)) (now (count .exit)) ⌝ }
 {
     if !valid(hashes, numbers, deps, count) {

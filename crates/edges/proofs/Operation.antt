@@ -53,6 +53,7 @@ use denote.Triple.Clauses.{Clauses, Ended, closing}
 use denote.Triple.Table.{entered, cited}
 use denote.Triple.Walked.{Stays, stay-none, stay-none-slice, gave-slice, walkOf, AllGo, goes-none, goes-none-slice, goes-gave-slice, walked, walk-meets}
 use denote.Exit.{yes}
+use Rattle.paper.specs.Numbers as numbers
 use Rattle.tables.specs.Tables.{Tables as Tables′, tables, edgeRoom}
 use Rattle.edges.specs.Edges as E
 use Rattle.edges.specs.Told.{AskedOverFirst, OverFirst, Beyond, asked-lent, told-lent, told-beside}
@@ -359,12 +360,12 @@ module _ (es : List Edge) {ts xs : List ℕ} where
 
   module _ (R : Tables′ → ℕ → Tables′ → Type 0) (r : ℕ) (hs ns cs us hs′ ns′ ts′ xs′ cs′ us′ : List ℕ) {es′ : List Edge} where
     pub told-of : Unpacked es ts xs → length ts′ ≡ E.localRoom → length xs′ ≡ E.localRoom → es′ ≡ E.packed ts′ xs′ es → OverFirst R (length es) (tables hs ns ts xs cs us) r (tables hs′ ns′ ts′ xs′ cs′ us′)
-        → ((t : Tables′) → E.localRoom < edgeRoom t → R t (number not-valid) t) → R (E.lent hs ns es cs us) r (E.lent hs′ ns′ es′ cs′ us′)
+        → ((t : Tables′) → E.localRoom < edgeRoom t → R t (numbers.number numbers.not-valid) t) → R (E.lent hs ns es cs us) r (E.lent hs′ ns′ es′ cs′ us′)
     told-of u lt lx p c refuse = told-lent E.localRoom E.blank (blank-long E.localRoom) es R refuse r hs ns cs us hs′ ns′ ts′ xs′ cs′ us′ es′ lt lx p (taken (λ (ls ls′ : List ℕ). OverFirst R (length es) (tables hs ns ls ls′ cs us) r (tables hs′ ns′ ts′ xs′ cs′ us′)) u c)
 
     pub beside-of : {refused : Type 0} → Unpacked es ts xs → length ts′ ≡ E.localRoom → length xs′ ≡ E.localRoom → es′ ≡ E.packed ts′ xs′ es
         → OverFirst R (length es) (tables hs ns ts xs cs us) r (tables hs′ ns′ ts′ xs′ cs′ us′) × (Beyond (length es) (tables hs ns ts xs cs us) → refused)
-        → ((t : Tables′) → E.localRoom < edgeRoom t → refused → R t (number not-valid) t) → R (E.lent hs ns es cs us) r (E.lent hs′ ns′ es′ cs′ us′)
+        → ((t : Tables′) → E.localRoom < edgeRoom t → refused → R t (numbers.number numbers.not-valid) t) → R (E.lent hs ns es cs us) r (E.lent hs′ ns′ es′ cs′ us′)
     beside-of {refused} u lt lx p c refuse = told-beside E.localRoom E.blank (blank-long E.localRoom) es R refused refuse r hs ns cs us hs′ ns′ ts′ xs′ cs′ us′ es′ lt lx p
         (taken (λ (ls ls′ : List ℕ). OverFirst R (length es) (tables hs ns ls ls′ cs us) r (tables hs′ ns′ ts′ xs′ cs′ us′) × (Beyond (length es) (tables hs ns ls ls′ cs us) → refused)) u c)
 

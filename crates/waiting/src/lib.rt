@@ -122,7 +122,7 @@ pub fn valid(hashes: &[u8], numbers: &[u64], deps: &[u8], count: &[u32]) -> bool
 
 // Opens an empty queue or batch: 1 if the lengths disagree, or 0 and the count is 0. What the tables held has no meaning, and stays.
 pub fn open_empty(hashes: &[u8], numbers: &[u64], deps: &[u8], count: &mut [u32]) -> StoreOpened
-    ensures { λ r. ⌜ HeldOrNot (StoreLaid (now (hashes .entry)) (now (numbers .entry)) (now (deps .entry)) (now (count .entry))) (r ≡ Opened.Done) (r ≡ Opened.NotValid) ⌝ }
+    ensures { λ r. ⌜ HeldOrNot (StoreLaid (now (hashes .entry)) (now (numbers .entry)) (now (deps .entry)) (now (count .entry))) (r ≡ StoreOpened.Done) (r ≡ StoreOpened.NotValid) ⌝ }
     ensures { λ r. ⌜ OpenedTo r (now (count .entry)) (now (count .exit)) ⌝ }
 {
     if !laid(hashes, numbers, deps, count) {
