@@ -3,7 +3,7 @@
 -- All that the proof knows of the callees is that each meets its contract. What the walks share stands in crates/edges/proofs, and the script keeps the positions. Assumes nothing.
 use Rattle.edges.proofs.Words.{_≡_, refl, ℕ, _<_, _^_, List, [], _∷_, length, URA, w64, SProp, sep, id⊢, GName, Memory, Routine, Heap, Calls, Loops, Atoms, sem, Fun, givenOf, Given, raw, _$_, _∵_, !, qed, move, keep, suffices, whole, sub, look, from, no-more, returns, enter, alloc1, alloc0, params1, pass0, free0, FmC, u8, u32, tripleOf, Contract, Triple, cited, ends-at, tables, lent, AskedOverFirst, Lent, elems, Arg, shr-at, shr, mut, num, Owns, Tokens, bound, passed, starts, leaves, Edges, edge, Par, reads, changes, number, ended, stays, Handed, handed, Walk, proved, Unpacked, Unpack, #unpack, knows-unpack, asked-of, local, shares, shut, takes, frees, frees-table, gives, stores, lands-in, behind, counted, zeroes, refers, refers-again, slice-fits, table-fits, unpacks, asks}
 use Rattle.hub_open.specs.Operations.{Opened, opened-refused}
-use Rattle.paper.specs.Numbers.{number, not-valid}
+use Rattle.paper.specs.Numbers.{number as answer-number, not-valid}
 use Rattle.hub_open.proofs.open_told as core
 use Rattle.hub_open.proofs.open_told.Symbol as core-def
 use Rattle.hub_open.proofs.open_told.Met as core-thm
@@ -21,7 +21,7 @@ Core 𝓤 H A mem run = tripleOf 𝓤 H A core.signature (core.spec 𝓤 H A mem
 -- what the core says of the two local tables, and from that what the function says
 module _ (hashes : List ℕ) (nodes : List ℕ) (edges : Edges) (clocks : List ℕ) (counts : List ℕ) (actors : ℕ) (r : ℕ) (counts′ : List ℕ) where
   abbrev Cored : List ℕ → List ℕ → Type 0
-  Cored ts xs = AskedOverFirst (Opened actors r counts′) ((r ≡ number not-valid) × (counts′ ≡ counts)) (length edges) (tables hashes nodes ts xs clocks counts)
+  Cored ts xs = AskedOverFirst (Opened actors r counts′) ((r ≡ answer-number not-valid) × (counts′ ≡ counts)) (length edges) (tables hashes nodes ts xs clocks counts)
 
   said : {ts xs : List ℕ} → Unpacked edges ts xs → Cored ts xs → (Opened actors r counts′) (lent hashes nodes edges clocks counts)
   said u c = asked-of edges hashes nodes clocks counts u c (opened-refused actors r counts′ (lent hashes nodes edges clocks counts))
