@@ -29,7 +29,7 @@ use Rattle.answer_buffer.specs.Entering.{Entering}
 use Rattle.answer_buffer.specs.declared.Listed.the-variants.{Done, Malformed}
 use Rattle.current_heads.specs.CurrentLaws.{found, find-names}
 use Rattle.list_clock.specs.KnownLaws.{hist-knowns, starts-are}
-use Rattle.ancestors.specs.Ancestors.{outside-bytes, removed-told, removed-filled, unmarked, stays, first-kept, kept-bytes}
+use Rattle.ancestors.specs.Ancestors.{outside-bytes, removed-told, removed-filled, unmarked, hash-stays, first-kept, kept-bytes}
 use Rattle.ancestors.specs.KeptLaws.{keep-ext, kept-to, kept-told, kept-whole, bytes-long}
 
 module _ (t : Tables) (v : Valid t) where
@@ -57,10 +57,10 @@ module _ (t : Tables) (v : Valid t) where
     unknown-out : hist (graph t) s (changes t) ≡ false
     unknown-out = to-false (hist (graph t) s (changes t)) (λ e. let b = hist-known (graph t) (valid-graph t (v .sound)) s (changes t) e in absurd (omega arith))
 
-    kept-outside : (h : List ℕ) → stays (t .hashes) (changes t) (marks-of (hist (graph t) s) r) h ≡ not (hist (graph t) s (node (graph t) h))
+    kept-outside : (h : List ℕ) → hash-stays (t .hashes) (changes t) (marks-of (hist (graph t) s) r) h ≡ not (hist (graph t) s (node (graph t) h))
     kept-outside h = go (findHash (t .hashes) (changes t) h) refl
       where
-        go : (f : Found) → findHash (t .hashes) (changes t) h ≡ f → stays (t .hashes) (changes t) (marks-of (hist (graph t) s) r) h ≡ not (hist (graph t) s (node (graph t) h))
+        go : (f : Found) → findHash (t .hashes) (changes t) h ≡ f → hash-stays (t .hashes) (changes t) (marks-of (hist (graph t) s) r) h ≡ not (hist (graph t) s (node (graph t) h))
         go (At k) e =
             ap (unmarked (marks-of (hist (graph t) s) r)) e
             ∙ ap not (mark-says k (let l = node-low t h k e in omega arith) ∙ ap (hist (graph t) s) (sym (node-at t h k e)))
@@ -72,7 +72,7 @@ module _ (t : Tables) (v : Valid t) where
   unfolding kept-bytes outside-bytes remove-ancestors
   kept-removed list of r l =
       ap (λ (hs : List (List ℕ)). flat (ascending hs))
-      (keep-ext (stays (t .hashes) (changes t) (marks-of (hist (graph t) (nodes (graph t) (hashes-of of))) r)) (λ h. not (hist (graph t) (nodes (graph t) (hashes-of of)) (node (graph t) h)))
+      (keep-ext (hash-stays (t .hashes) (changes t) (marks-of (hist (graph t) (nodes (graph t) (hashes-of of))) r)) (λ h. not (hist (graph t) (nodes (graph t) (hashes-of of)) (node (graph t) h)))
       (kept-outside (nodes (graph t) (hashes-of of)) r l)
       (hashes-of list))
 
@@ -119,14 +119,14 @@ unfolding FoundIs
 found-in hs n h k e = subst (FoundIs hs n h) e (find-is hs n h) .0
 
 module _ (hs : List ℕ) (n : ℕ) (m h : List ℕ) where
-  pub kept-found : (k : ℕ) → findHash hs n h ≡ At k → eqb (getD m k 0) 0 ≡ stays hs n m h
+  pub kept-found : (k : ℕ) → findHash hs n h ≡ At k → eqb (getD m k 0) 0 ≡ hash-stays hs n m h
   kept-found k e = none (getD m k 0) ∙ sym (ap (unmarked m) e)
     where
       none : (x : ℕ) → eqb x 0 ≡ not (ltb 0 x)
       none zero = refl
       none (suc x) = rw (ne-eqb (suc x) 0 (λ e. absurd (omega arith)), lt-ltb 0 (suc x) (omega arith))
 
-  pub kept-unknown : findHash hs n h ≡ Unknown → true ≡ stays hs n m h
+  pub kept-unknown : findHash hs n h ≡ Unknown → true ≡ hash-stays hs n m h
   kept-unknown e = sym (ap (unmarked m) e)
 
 module _ (hs : List ℕ) (n : ℕ) (m list : List ℕ) (i : ℕ) where
@@ -136,27 +136,27 @@ module _ (hs : List ℕ) (n : ℕ) (m list : List ℕ) (i : ℕ) where
 
   -- it stood before
   pub first-seen : (k : ℕ) → findHash list i (hashAt list i) ≡ At k → false ≡ first-kept hs n m list i
-  first-seen k e = ap (λ (b : Bool). not b && stays hs n m (hashAt list i)) (sym (ap found e) ∙ earlier)
+  first-seen k e = ap (λ (b : Bool). not b && hash-stays hs n m (hashAt list i)) (sym (ap found e) ∙ earlier)
 
   -- it is new
-  pub first-new : findHash list i (hashAt list i) ≡ Unknown → stays hs n m (hashAt list i) ≡ first-kept hs n m list i
-  first-new e = ap (λ (b : Bool). not b && stays hs n m (hashAt list i)) (sym (ap found e) ∙ earlier)
+  pub first-new : findHash list i (hashAt list i) ≡ Unknown → hash-stays hs n m (hashAt list i) ≡ first-kept hs n m list i
+  first-new e = ap (λ (b : Bool). not b && hash-stays hs n m (hashAt list i)) (sym (ap found e) ∙ earlier)
 
 -- ---- the kept hashes as bytes
 
 module _ (hs : List ℕ) (n : ℕ) (m list : List ℕ) where
-  bytes-are : kept-bytes hs n m list ≡ flat (ascending (kept-to (stays hs n m) list (length list / 32)))
+  bytes-are : kept-bytes hs n m list ≡ flat (ascending (kept-to (hash-stays hs n m) list (length list / 32)))
   unfolding kept-bytes hashes-of
   bytes-are = refl
 
   -- 32 for each that is counted
   pub kept-bytes-long : length (kept-bytes hs n m list) ≡ 32 * tally (first-kept hs n m list) (length list / 32)
-  kept-bytes-long = ap length bytes-are ∙ bytes-long (stays hs n m) list (length list / 32) (omega arith)
+  kept-bytes-long = ap length bytes-are ∙ bytes-long (hash-stays hs n m) list (length list / 32) (omega arith)
 
   -- all of them entered
-  module _ {out₀ out : List ℕ} {c i : ℕ} (v : Entering (kept-to (stays hs n m) list i) out₀ out c) (fits : 32 * tally (first-kept hs n m list) (length list / 32) ≤ length out₀) (e : i ≡ length list / 32) where
+  module _ {out₀ out : List ℕ} {c i : ℕ} (v : Entering (kept-to (hash-stays hs n m) list i) out₀ out c) (fits : 32 * tally (first-kept hs n m list) (length list / 32) ≤ length out₀) (e : i ≡ length list / 32) where
     pub entered-told : Done (32 * c) ≡ listAnswer (kept-bytes hs n m list) (length out₀)
-    entered-told = kept-told (stays hs n m) list (length list / 32) (omega arith) v fits e ∙ ap (λ (l : List ℕ). listAnswer l (length out₀)) (sym bytes-are)
+    entered-told = kept-told (hash-stays hs n m) list (length list / 32) (omega arith) v fits e ∙ ap (λ (l : List ℕ). listAnswer l (length out₀)) (sym bytes-are)
 
     pub entered-whole : out ≡ filled (kept-bytes hs n m list) out₀
-    entered-whole = kept-whole (stays hs n m) list (length list / 32) (omega arith) v fits e ∙ ap (λ (l : List ℕ). filled l out₀) (sym bytes-are)
+    entered-whole = kept-whole (hash-stays hs n m) list (length list / 32) (omega arith) v fits e ∙ ap (λ (l : List ℕ). filled l out₀) (sym bytes-are)

@@ -32,13 +32,13 @@ unmarked m (At k) = not (marked m k)
 unmarked m Unknown = true
 
 -- the hash h is none of the first n, or its node is not marked
-abbrev pub stays : List ℕ → ℕ → List ℕ → List ℕ → Bool
-stays hs n m h = unmarked m (findHash hs n h)
+abbrev pub hash-stays : List ℕ → ℕ → List ℕ → List ℕ → Bool
+hash-stays hs n m h = unmarked m (findHash hs n h)
 
 -- hash i of the list is kept, and is none of those before it
 abbrev pub first-kept : List ℕ → ℕ → List ℕ → List ℕ → ℕ → Bool
-first-kept hs n m list i = not (names (hashAt list i) (hashes-from list i 0)) && stays hs n m (hashAt list i)
+first-kept hs n m list i = not (names (hashAt list i) (hashes-from list i 0)) && hash-stays hs n m (hashAt list i)
 
 -- the bytes of those kept, ascending, each once
 unfoldable pub kept-bytes : List ℕ → ℕ → List ℕ → List ℕ → List ℕ
-kept-bytes hs n m list = flat (ascending (keep (stays hs n m) (hashes-of list)))
+kept-bytes hs n m list = flat (ascending (keep (hash-stays hs n m) (hashes-of list)))

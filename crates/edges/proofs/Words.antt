@@ -23,7 +23,7 @@ pub use denote.Triple.Statement.{Contract, Triple}
 pub use denote.Triple.Table.{cited}
 pub use denote.Triple.Walked.{ends-at}
 pub use Rattle.tables.specs.Tables.{tables}
-pub use Rattle.edges.specs.Edges.{lent, packed, localRoom}
+pub use Rattle.edges.specs.Edges.{lent, packed, localRoom as edge-room}
 pub use Rattle.edges.specs.Told.{AskedOverFirst, OverFirst, Beyond}
 pub use Rattle.edges.proofs.Handed.{Lent, elems, Arg, shr-at, mut-at, shr, mut, num, Owns, Tokens, bound, passed, starts, leaves}
 pub use Rattle.edges.proofs.Operation.{Edges, edge, Par, reads, changes, number, ended, stays, Handed, handed, Walk, proved, Unpacked, Unpack, Pack, #unpack, #pack, knows-unpack, knows-pack, asked-of, told-of, beside-of}

@@ -11,21 +11,21 @@ use borrow.Author.Needs.{needs}
 use Rattle.paper.specs.Lists.{tally}
 use Rattle.answer_buffer.specs.AnswerLaws.{listed-short, filled-short}
 use Rattle.answer_buffer.specs.Entering.{Entering}
-use Rattle.ancestors.specs.Ancestors.{stays, first-kept, kept-bytes}
+use Rattle.ancestors.specs.Ancestors.{hash-stays, first-kept, kept-bytes}
 use Rattle.ancestors.specs.KeptLaws.{kept-to, kept-start, kept-room, enter-room, enter-next, enter-skip}
 use Rattle.ancestors.specs.AncestorLaws.{kept-bytes-long, entered-told, entered-whole}
 use Rattle.ancestors.proofs.kept_into.Statement.{statement}
 use Rattle.ancestors.proofs.kept_into.Tie as tie
 
 abbrev Inv-loop : tie.InvT-loop
-Inv-loop hashes n marks list out₀ count m c₀ i₀ out c i = (i ≤ length list / 32) × Entering (kept-to (stays hashes n marks) list i) out₀ out c
+Inv-loop hashes n marks list out₀ count m c₀ i₀ out c i = (i ≤ length list / 32) × Entering (kept-to (hash-stays hashes n marks) list i) out₀ out c
 
 abbrev μ-loop : tie.MeasureT-loop
 μ-loop hashes n marks list out₀ count m c₀ i₀ out c i = length list / 32 - i
 
 -- what is asked of a hash
 abbrev stays : tie.Start Inv-loop μ-loop → List ℕ → Bool
-stays s = stays (now (s .args .hashes)) (s .args .n) (now (s .args .marks))
+stays s = hash-stays (now (s .args .hashes)) (s .args .n) (now (s .args .marks))
 
 -- the buffer has room for all that are kept
 fits : (c : tie.Else1 Inv-loop μ-loop) → 32 * tally (first-kept (now (c .before .before .before .before .before .before .args .hashes)) (c .before .before .before .before .before .before .args .n) (now (c .before .before .before .before .before .before .args .marks)) (now (c .before .before .before .before .before .before .args .list))) (length (now (c .before .before .before .before .before .before .args .list)) / 32) ≤ length (now (c .before .before .before .before .before .before .args .out))
