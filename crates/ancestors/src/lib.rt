@@ -8,7 +8,7 @@ ghost use Rattle.tables.specs.Tables.{tables, graph, changes};
 ghost use Rattle.tables.specs.Valid.{Valid};
 ghost use Rattle.walk.specs.Marks.{marks-of};
 ghost use Rattle.answer_buffer.specs.Answers.{listAnswer, filled};
-ghost use Rattle.ancestors.specs.Ancestors.{stays, first-kept, kept-bytes, removed-told, removed-filled};
+ghost use Rattle.ancestors.specs.Ancestors.{hash-stays, first-kept, kept-bytes, removed-told, removed-filled};
 use answer_buffer::Listed;
 use hash::Found;
 
@@ -53,7 +53,7 @@ fn history_of(
 // Does hash i of the list stay: is it none of the first n hashes, or its node not marked?
 fn is_kept(hashes: &[u8], n: usize, marks: &[u8], list: &[u8], i: usize) -> bool
     requires { ⌜ (32 * n ≤ length (now hashes)) × (n ≤ length (now marks)) × (32 * i + 32 ≤ length (now list)) ⌝ }
-    ensures { λ r. ⌜ r ≡ stays (now (hashes .entry)) n (now (marks .entry)) (hashAt (now (list .entry)) i) ⌝ }
+    ensures { λ r. ⌜ r ≡ hash-stays (now (hashes .entry)) n (now (marks .entry)) (hashAt (now (list .entry)) i) ⌝ }
 {
     let p = 32 * i;
     let Found::At(k) = hash::find(hashes, n, &list[p..p + 32]) else {

@@ -11,10 +11,14 @@ use Rattle.paper.specs.Lists.{pick, each-below}
 use Rattle.paper.specs.Graph.{clock}
 use Rattle.paper.specs.ProofWords.{front}
 use Rattle.paper.specs.Caching.{left-over, in-turn, cached-to, cached-after}
-use Rattle.tables.specs.Tables.{Tables, changes, actorRoom, entryAt, graph}
+use Rattle.tables.specs.Tables.{Tables, tables, changes, actorRoom, entryAt, graph}
 use Rattle.tables.specs.Valid.{Sound}
 use Rattle.walk.specs.Marks.{marked}
 use Rattle.walk.specs.Rows.{cached, RowsRight, Walkable}
+
+-- t with another clock table
+abbrev pub with-clocks : Tables → List ℕ → Tables
+with-clocks t cs = tables (t .hashes) (t .nodes) (t .targets) (t .nexts) cs (t .counts)
 
 -- the clock table with the clocks of the nodes in use that s has: entry i is entry i % width of row i / width. The other entries stay
 unfoldable pub recached : Tables → (ℕ → Bool) → List ℕ

@@ -27,8 +27,8 @@ use Rattle.walk.specs.Rows.{cached, RowsRight, Walkable}
 use Rattle.walk.specs.RowLaws.{row-fits, node-fits, own-room}
 use Rattle.walk.specs.Walk.{WalkDone}
 use Rattle.walk.specs.WalkLaws.{front-none}
-use Rattle.cache.specs.Cache.{RowsTo, Cachable, Begun, NodeCached, Halfway, LeftCached}
-use Rattle.cache.specs.RowLaws.{with-clocks, rows-apart, row-end, same-width, sound-with, cached-with, right-with}
+use Rattle.cache.specs.Cache.{RowsTo, Cachable, Begun, NodeCached, Halfway, LeftCached, with-clocks}
+use Rattle.cache.specs.RowLaws.{rows-apart, row-end, same-width, sound-with, cached-with, right-with}
 
 -- ---- a node that is cached already
 

@@ -29,8 +29,8 @@ use Rattle.walk.specs.RowLaws.{row-fits, node-fits, actor-low, rows-right, righ
 use Rattle.walk.specs.Walk.{WalkDone}
 use Rattle.walk.specs.WalkLaws.{front-none, included, all-clean, all-walked}
 use Rattle.walk.specs.Whole.{cleared}
-use Rattle.cache.specs.Cache.{forgotten, Checkable, NodeClocked, RowIs}
-use Rattle.cache.specs.RowLaws.{with-clocks, rows-apart, sound-with, cached-with, right-with}
+use Rattle.cache.specs.Cache.{forgotten, Checkable, NodeClocked, RowIs, with-clocks}
+use Rattle.cache.specs.RowLaws.{rows-apart, sound-with, cached-with, right-with}
 
 module _ (t : Tables) (width n k : ℕ) (marks : List ℕ) (v : Checkable t width n k marks) where
   valid : ValidGraph (graph t)

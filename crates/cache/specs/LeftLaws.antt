@@ -25,8 +25,8 @@ use Rattle.walk.specs.Marks.{marked}
 use Rattle.walk.specs.Rows.{cached, RowsRight}
 use Rattle.walk.specs.RowLaws.{row-fits}
 use Rattle.walk.specs.WalkLaws.{front-none}
-use Rattle.cache.specs.Cache.{RowsTo, Cachable, Halfway, LeftCached, RowMerged}
-use Rattle.cache.specs.RowLaws.{with-clocks, rows-apart, row-end, same-width, sound-with, cached-with, right-with}
+use Rattle.cache.specs.Cache.{RowsTo, Cachable, Halfway, LeftCached, RowMerged, with-clocks}
+use Rattle.cache.specs.RowLaws.{rows-apart, row-end, same-width, sound-with, cached-with, right-with}
 
 -- the set of the cached nodes once the marked nodes below i are cached in turn
 abbrev pub turned : Tables → ℕ → List ℕ → ℕ → ℕ → Bool

@@ -11,8 +11,7 @@ use Rattle.tables.specs.Valid.{Lengths, Valid}
 use Rattle.judge.specs.Judge.{tablesJudged, judgedNumber}
 use Rattle.actors.specs.Actors as actors
 use Rattle.actors.specs.Actors.{opening, opened, inserting, actorInserted, removing, actorRemoved, ifActorsDone}
-use Rattle.cache.specs.Cache.{forgotten}
-use Rattle.cache.specs.RowLaws.{with-clocks}
+use Rattle.cache.specs.Cache.{forgotten, with-clocks}
 use Rattle.graph.specs.Place.{addedTables}
 use Rattle.load.specs.Load.{loading, loaded}
 use Rattle.edges.specs.Told.{Checked}

@@ -18,11 +18,11 @@ use Rattle.judge.specs.declared.Judged.the-variants.{Done}
 use Rattle.judge.specs.Judge.{tablesJudged}
 use Rattle.judge.specs.JudgeLaws.{Accepted, accepted}
 use Rattle.judge.specs.Hub.{hub}
-use Rattle.graph.specs.Place.{depsOf, placed, addedTables}
+use Rattle.graph.specs.Place.{depsOf, placed, addedTables, adds}
 use Rattle.graph.specs.Grown.{new-changes, new-deps}
 use Rattle.graph.specs.Growth.{extended, low, next, old-valid, new-valid}
 use Rattle.graph.specs.HubGrown.{added-hub}
-use Rattle.graph.specs.Life.{added-valid, adds}
+use Rattle.graph.specs.Life.{added-valid}
 
 module _ (t : Tables) (x : Change) (v : Valid t) (d : tablesJudged t x ≡ Done) where
   a : Accepted t x

@@ -12,8 +12,7 @@ use Rattle.hash.specs.Hash.{findHash}
 use Rattle.hash.specs.declared.Found.{Found}
 use Rattle.hash.specs.declared.Found.the-variants.{At, Unknown as Nowhere}
 use Rattle.tables.specs.Tables.{Tables, changes, edges, actorRoom}
-use Rattle.cache.specs.Cache.{afterCaching}
-use Rattle.cache.specs.RowLaws.{with-clocks}
+use Rattle.cache.specs.Cache.{afterCaching, with-clocks}
 use Rattle.judge.specs.declared.Judged.{Judged}
 use Rattle.judge.specs.declared.Judged.the-variants.{Done, Malformed, Known, Unknown, NoActor, WrongSequence, BadOps, TooManyDeps, NoNodeRoom, NoEdgeRoom}
 use Rattle.paper.specs.Adding.{Change}
@@ -91,3 +90,8 @@ ifAdded NoEdgeRoom new old = old
 -- the tables after the change was judged and, if accepted, placed
 abbrev pub addedTables : Tables → Change → Tables
 addedTables t x = ifAdded (tablesJudged t x) (placed t x) t
+
+-- after each of a list of changes in turn
+unfoldable pub adds : Tables → List Change → Tables
+adds t [] = t
+adds t (x ∷ xs) = adds (addedTables t x) xs

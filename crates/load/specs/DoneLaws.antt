@@ -14,7 +14,7 @@ use Rattle.paper.proofs.Bools.{by-bool}
 use Rattle.paper.proofs.Loading.{Agreed}
 use Rattle.tables.specs.Tables.{Tables, tables, actorRoom}
 use Rattle.tables.specs.Valid.{Lengths, Valid}
-use Rattle.graph.specs.Life.{adds}
+use Rattle.graph.specs.Place.{adds}
 use Rattle.columns.specs.Columns.{columns}
 use Rattle.actors.specs.Actors.{opened}
 use Rattle.actors.specs.ActorLaws.{three}

@@ -10,7 +10,7 @@ use Rattle.paper.specs.Lists.{mem}
 use Rattle.paper.specs.Numbers.{Outcome, number}
 use Rattle.paper.specs.Loading.{Columns, listed-changes, deps-before, deps-of, changes-of, judged-load}
 use Rattle.tables.specs.Tables.{Tables, changeRoom, edgeRoom, actorRoom}
-use Rattle.graph.specs.Life.{adds}
+use Rattle.graph.specs.Place.{adds}
 use Rattle.actors.specs.Actors.{opened}
 
 -- what loading into the tables comes to

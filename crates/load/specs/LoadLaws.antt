@@ -20,8 +20,8 @@ use Rattle.paper.proofs.Loading.{Agreed}
 use Rattle.hash.specs.HashLaws.{hash-length}
 use Rattle.tables.specs.Tables.{Tables}
 use Rattle.tables.specs.Valid.{Valid}
-use Rattle.graph.specs.Place.{addedTables}
-use Rattle.graph.specs.Life.{adds, adds-valid}
+use Rattle.graph.specs.Place.{addedTables, adds}
+use Rattle.graph.specs.Life.{adds-valid}
 use Rattle.load.specs.Load.{Inside, Fillable}
 
 -- ---- the hashes of nodes

@@ -21,9 +21,9 @@ use Rattle.judge.specs.Judge.{tablesJudged, verdict, judgedNumber}
 use Rattle.judge.specs.JudgeLaws.{is-done}
 use Rattle.judge.specs.Hub.{hub}
 use Rattle.judge.specs.HubLaws.{judged-agrees}
-use Rattle.graph.specs.Place.{addedTables}
+use Rattle.graph.specs.Place.{addedTables, adds}
 use Rattle.graph.specs.HubGrown.{added-hub}
-use Rattle.graph.specs.Life.{adds, added-valid}
+use Rattle.graph.specs.Life.{added-valid}
 use Rattle.actors.specs.Actors.{opened}
 use Rattle.actors.specs.Lives.{opened-valid}
 use Rattle.load.specs.Load.{loading, loaded}

@@ -10,7 +10,7 @@ use Rattle.paper.specs.Adding.{Change}
 use Rattle.paper.specs.Loading.{Columns, judged-load}
 use Rattle.paper.proofs.Loading.{agreed}
 use Rattle.tables.specs.Tables.{Tables, tables, changeRoom, edgeRoom, actorRoom}
-use Rattle.graph.specs.Life.{adds}
+use Rattle.graph.specs.Place.{adds}
 use Rattle.columns.specs.Columns.{columns, loadingOutcome}
 use Rattle.load.specs.Load.{loading}
 use Rattle.load.specs.DoneLaws.{Taken, taken, loaded-done, loaded-refused, stored, stored-valid, fillable, same-changes}
