@@ -7,7 +7,7 @@ from .svg import Drawing, FILLS, MARK, SOFT
 # what runs: crate, function, words; what refuses there; what its promise cites: file below crates/, name, words
 STEPS = [
     ("hub_missing", "cg_missing", "called by C; unpacks the edge records into two plain tables", "", "hub_missing/specs/Operations.antt", "MissingFrom", "what the call promises: number, buffer, place"),
-    ("hub_missing", "missing_told", "takes as many edges as were lent", "1 too many edges", "edges/specs/Told.antt", "Asked", "the same of the first e edges"),
+    ("hub_missing", "missing_told", "takes as many edges as were lent", "1 too many edges", "edges/specs/Told.antt", "AskedOverFirst", "the same of the first e edges"),
     ("hub_missing", "missing_checked", "the shell: checks, asks, tells", "", "hub_answer/specs/Asks.antt", "Asks", "what every question promises"),
     ("cache", "valid", "the check of all that is lent", "1 the tables are not valid", "tables/specs/Valid.antt", "Valid", "valid tables, word by word"),
     ("missing", "get_hashes", "the core: requires valid tables", "2 no hash list · 15 short buffer", "missing/specs/Missing.antt", "missing-told", "the answer over the paper's graph"),

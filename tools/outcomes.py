@@ -1,0 +1,61 @@
+#!/usr/bin/env python3
+"""outcomes.py: each C function has its theorem in crates/one_outcome that two outcomes are one, and the theorem speaks of the very promise that the function has: the text of each
+`ensures`, once for either outcome (what is lent at entry by its name, at exit with ′ or ″ after it), and its conclusion compares the number and every parameter lent by `&mut`.
+Prints what is not so; exit status 1 where anything is not."""
+import glob
+import os
+import re
+import sys
+
+os.chdir(os.path.join(os.path.dirname(os.path.abspath(__file__)), ".."))
+
+
+def plain(text):
+    return re.sub(r"\s+", " ", text).strip()
+
+
+def functions():
+    """Name, parameters and promises of each C function; those of benchmark_cores are in no archive that a host links."""
+    for path in sorted(glob.glob("crates/*/src/lib.rt")):
+        if "benchmark_cores" not in path:
+            text = open(path, encoding="utf-8").read()
+            for m in re.finditer(r'pub extern "C" fn (\w+)\((.*?)\) -> u32\s*(ensures.*?)\n\{', text, re.S):
+                yield m.group(1), m.group(2), [plain(c) for c in re.findall(r"⌜(.*?)⌝", m.group(3), re.S)]
+
+
+def outcome(promise, mark):
+    """A promise as a theorem says it of one of the two outcomes."""
+    promise = re.sub(r"now \((\w+) \.entry\) \.(\w+)", r"\1 .\2", promise)
+    promise = re.sub(r"now \((\w+) \.exit\) \.(\w+)", r"\1" + mark + r" .\2", promise)
+    promise = re.sub(r"\(now \((\w+) \.entry\)\)", r"\1", promise)
+    promise = re.sub(r"\(now \((\w+) \.exit\)\)", r"\1" + mark, promise)
+    promise = re.sub(r"now \((\w+) \.exit\)", r"\1" + mark, promise)
+    return re.sub(r"\br\b", "r" + mark, promise)
+
+
+def wrong(name, parameters, promises, laws):
+    theorem = name.replace("_", "-") + "-once"
+    found = re.search(r"pub " + theorem + r" :(.*?)\n *" + theorem + " ", laws, re.S)
+    if not found:
+        yield f"{name}: no theorem {theorem}"
+        return
+    statement = plain(found.group(1))
+    for promise in promises:
+        for mark in "′″":
+            if outcome(promise, mark) not in statement:
+                yield f"{theorem}: does not say {outcome(promise, mark)}"
+    concluded = set(re.findall(r"\((\w+)′ ≡ \1″\)", statement[statement.rindex("→ ") :]))
+    changed = {p.split(":")[0].strip() for p in parameters.split(",") if "&mut" in p} | {"r"}
+    if concluded != changed:
+        yield f"{theorem}: compares {sorted(concluded)} and not {sorted(changed)}"
+
+
+def main():
+    laws = "\n".join(open(p, encoding="utf-8").read() for p in sorted(glob.glob("crates/one_outcome/specs/*Functions.antt")))
+    every = list(functions())
+    found = [w for name, parameters, promises in every for w in wrong(name, parameters, promises, laws)]
+    print("\n".join(found + [f"outcomes: {len(every)} C functions, {len(found)} wrong"]))
+    sys.exit(1 if found else 0)
+
+
+main()
