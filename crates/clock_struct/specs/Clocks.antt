@@ -1,5 +1,6 @@
 -- What the operations on a clock struct come to: the paper's number, the yes or no beside it, and the entries afterwards.
 -- Assumes nothing.
+use mathlib.Core.Path.{_≡_}
 use Prim.Native.Nat.{ℕ}
 use mathlib.Core.List.{List}
 use mathlib.Core.Bool.{cond}
@@ -47,3 +48,21 @@ askedOf a old = struct-asked (clockNumber a) (cond (eqb (clockNumber a) (number 
 
 abbrev pub coversAsked : List ℕ → ℕ → List ℕ → ℕ → ℕ → StructAsked
 coversAsked c n b m old = askedOf (coversTold c n b m) old
+
+-- ---- what the functions on the struct promise: of entries c, n of them in use, which become c′ and n′
+
+-- the sequence x entered at a place answers r; `rose` held y and holds y′
+abbrev pub ClockIncluded : List ℕ → ℕ → ℕ → ℕ → ℕ → ℕ → List ℕ → ℕ → ℕ → Type 0
+ClockIncluded c n place x y r c′ n′ y′ = (struct-done r y′ c′ ≡ includeDone c n place x y) × (n′ ≡ n)
+
+-- joined with the entries b, m of them in use
+abbrev pub ClockMerged : List ℕ → ℕ → List ℕ → ℕ → ℕ → List ℕ → ℕ → Type 0
+ClockMerged c n b m r c′ n′ = (struct-done r 0 c′ ≡ mergeDone c n b m) × (n′ ≡ n)
+
+-- the entry at a place raised to the largest number
+abbrev pub ClockIsolated : List ℕ → ℕ → ℕ → ℕ → List ℕ → ℕ → Type 0
+ClockIsolated c n place r c′ n′ = (struct-done r 0 c′ ≡ isolateDone c n place) × (n′ ≡ n)
+
+-- whether the entries b, m of them in use, are covered; `covered` held y and holds y′
+abbrev pub ClockCovered : List ℕ → ℕ → List ℕ → ℕ → ℕ → ℕ → ℕ → Type 0
+ClockCovered c n b m y r y′ = struct-asked r y′ ≡ coversAsked c n b m y

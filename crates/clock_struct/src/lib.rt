@@ -1,7 +1,7 @@
 // A clock of 64 entries, lent by `&mut` and changed where it lies: thin functions over a covered core on its entries. They have no branch of their own;
 // the core decides everything, the number included. In C a `&mut Clock` is a `Clock *`, and a `&mut u32` a `uint32_t *`.
 ghost use mathlib.Core.Path.{_≡_};
-ghost use Rattle.clock_struct.specs.Clocks.{struct-done, struct-asked, includeDone, mergeDone, isolateDone, coversAsked};
+ghost use Rattle.clock_struct.specs.Clocks.{struct-done, struct-asked, includeDone, mergeDone, isolateDone, coversAsked, ClockIncluded, ClockMerged, ClockIsolated, ClockCovered};
 use clock::Entry;
 use clock_checked::Answer;
 
@@ -58,8 +58,7 @@ pub fn covers_in(a: &[u32], n: u32, b: &[u32], m: u32, covered: &mut u32) -> u32
 
 #[no_mangle]
 pub extern "C" fn cg_clock_include(c: &mut Clock, place: usize, seq: u32, rose: &mut u32) -> u32
-    ensures { λ r. ⌜ (struct-done r (now (rose .exit)) (now (c .exit) .entries) ≡ includeDone (now (c .entry) .entries) (now (c .entry) .count) place seq (now (rose .entry)))
-        × (now (c .exit) .count ≡ now (c .entry) .count) ⌝ }
+    ensures { λ r. ⌜ ClockIncluded (now (c .entry) .entries) (now (c .entry) .count) place seq (now (rose .entry)) r (now (c .exit) .entries) (now (c .exit) .count) (now (rose .exit)) ⌝ }
 {
     let n = c.count;
     include_in(&mut c.entries, n, place, seq, rose)
@@ -67,8 +66,7 @@ pub extern "C" fn cg_clock_include(c: &mut Clock, place: usize, seq: u32, rose: 
 
 #[no_mangle]
 pub extern "C" fn cg_clock_merge(a: &mut Clock, b: &Clock) -> u32
-    ensures { λ r. ⌜ (struct-done r 0 (now (a .exit) .entries) ≡ mergeDone (now (a .entry) .entries) (now (a .entry) .count) (now (b .entry) .entries) (now (b .entry) .count))
-        × (now (a .exit) .count ≡ now (a .entry) .count) ⌝ }
+    ensures { λ r. ⌜ ClockMerged (now (a .entry) .entries) (now (a .entry) .count) (now (b .entry) .entries) (now (b .entry) .count) r (now (a .exit) .entries) (now (a .exit) .count) ⌝ }
 {
     let n = a.count;
     let m = b.count;
@@ -77,8 +75,7 @@ pub extern "C" fn cg_clock_merge(a: &mut Clock, b: &Clock) -> u32
 
 #[no_mangle]
 pub extern "C" fn cg_clock_isolate(e: &mut Clock, place: usize) -> u32
-    ensures { λ r. ⌜ (struct-done r 0 (now (e .exit) .entries) ≡ isolateDone (now (e .entry) .entries) (now (e .entry) .count) place)
-        × (now (e .exit) .count ≡ now (e .entry) .count) ⌝ }
+    ensures { λ r. ⌜ ClockIsolated (now (e .entry) .entries) (now (e .entry) .count) place r (now (e .exit) .entries) (now (e .exit) .count) ⌝ }
 {
     let k = e.count;
     isolate_in(&mut e.entries, k, place)
@@ -86,7 +83,7 @@ pub extern "C" fn cg_clock_isolate(e: &mut Clock, place: usize) -> u32
 
 #[no_mangle]
 pub extern "C" fn cg_clock_covers(a: &Clock, b: &Clock, covered: &mut u32) -> u32
-    ensures { λ r. ⌜ struct-asked r (now (covered .exit)) ≡ coversAsked (now (a .entry) .entries) (now (a .entry) .count) (now (b .entry) .entries) (now (b .entry) .count) (now (covered .entry)) ⌝ }
+    ensures { λ r. ⌜ ClockCovered (now (a .entry) .entries) (now (a .entry) .count) (now (b .entry) .entries) (now (b .entry) .count) (now (covered .entry)) r (now (covered .exit)) ⌝ }
 {
     let k = a.count;
     let l = b.count;

@@ -13,7 +13,7 @@ use Rattle.paper.specs.Graph.{Reach, Held, hist, nodes}
 use Rattle.tables.specs.Tables.{Tables, graph, actors}
 use Rattle.clock_checked.specs.Told.{entries-left, clockNumber, mergeTold}
 use Rattle.clock_checked.specs.declared.Answer.{Answer}
-use Rattle.clock_struct.specs.Clocks.{struct-done, mergeDone, struct-asked, coversAsked}
+use Rattle.clock_struct.specs.Clocks.{ClockMerged, ClockCovered}
 use Rattle.hub_list_clock.specs.Operations.{ClockOf}
 use Rattle.hub_missing.specs.Operations.{MissingFrom}
 use Rattle.hub_chained.specs.Operations.{IsChained}
@@ -81,11 +81,11 @@ pub record MissingShown (t : Tables) (out out′ : List ℕ) (bytes : ℕ) : Typ
 abbrev pub ClocksLargest : Tables → Type 0
 ClocksLargest t = (bytes out told out′ told′ : List ℕ) → ClockOf bytes out told (number done) out′ told′ t → ClockLeft t bytes out told out′ told′
 
--- `cg_clock_merge` makes of the clocks for two lists, a with n in use and b with k, the clock for the two joined, their bytes one after the other: a′ is a afterwards,
--- and has the count and the entries in use of the clock c that is answered for both
+-- `cg_clock_merge` makes of the clocks for two lists, a with n in use and b with k, the clock for the two joined, their bytes one after the other: a′ with n′ in use is
+-- left, and has the count and the entries in use of the clock c that is answered for both
 abbrev pub MergeJoins : Tables → Type 0
 MergeJoins t =
-    (l m a b c a′ : List ℕ) (n k j : ℕ) → AnsweredClock t l a n → AnsweredClock t m b k → AnsweredClock t (l ++ m) c j → struct-done (number done) 0 a′ ≡ mergeDone a n b k → (n ≡ j) × (take n a′ ≡ take j c)
+    (l m a b c a′ : List ℕ) (n k j n′ : ℕ) → AnsweredClock t l a n → AnsweredClock t m b k → AnsweredClock t (l ++ m) c j → ClockMerged a n b k (number done) a′ n′ → (n′ ≡ j) × (take n′ a′ ≡ take j c)
 
 -- so does `try_merge` on slices
 abbrev pub SlicesJoin : Tables → Type 0
@@ -95,7 +95,7 @@ SlicesJoin t =
 -- where `cg_chained` told yes, `cg_clock_covers` tells 1 exactly if every change in the second list's history is in the first list's
 abbrev pub CoversContains : Tables → Type 0
 CoversContains t =
-    ToldChained t → (l m a b : List ℕ) (n k old covered : ℕ) → AnsweredClock t l a n → AnsweredClock t m b k → struct-asked (number done) covered ≡ coversAsked a n b k old
+    ToldChained t → (l m a b : List ℕ) (n k old covered : ℕ) → AnsweredClock t l a n → AnsweredClock t m b k → ClockCovered a n b k old (number done) covered
     → (covered ≡ 1) ↔ ((i : ℕ) → in-history-of t m i ≡ true → in-history-of t l i ≡ true)
 
 -- where `cg_chained` told yes, `cg_missing` gives the hashes outside the history of a have-list that is not empty

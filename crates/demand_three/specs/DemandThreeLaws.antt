@@ -264,8 +264,10 @@ module _ (t : Tables) (v : Valid t) where
 
   -- `cg_clock_merge` makes of the clocks for two lists the clock for the two joined
   pub merge-joins : MergeJoins t
-  merge-joins l m a b c a′ n k j x y z e =
-      slices-join l m a b c a′ n k j (mergeTold a n b k .answer) x y z (sym (ap (λ (s : StructDone). s .number) e)) (ap (entries-left (mergeTold a n b k .answer)) (ap (λ (s : StructDone). s .entries) e))
+  merge-joins l m a b c a′ n k j n′ x y z p =
+      let e = p .0 in
+      let w = slices-join l m a b c a′ n k j (mergeTold a n b k .answer) x y z (sym (ap (λ (s : StructDone). s .number) e)) (ap (entries-left (mergeTold a n b k .answer)) (ap (λ (s : StructDone). s .entries) e)) in
+      (p .1 ∙ w .0, ap (λ (i : ℕ). take i a′) (p .1) ∙ w .1)
 
   -- ---- (c) covering
 

@@ -1,6 +1,16 @@
 pub mod Operations
+pub mod Refusals
+pub mod RefusalLaws
+pub mod OperationLaws
 pub mod Demands
 pub mod Ties
 pub mod Questions
 pub mod QuestionLaws
-pub mod Waiting
+pub mod WaitingLaws
+pub mod ClockLaws
+pub mod Session
+pub mod SessionLaws
+pub mod Adds
+pub mod AddLaws
+pub mod PublicCalls
+pub mod DemandOne

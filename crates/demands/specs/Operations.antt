@@ -1,9 +1,8 @@
 -- The operations that change a graph, and what each promises of the lent tables: the promises of the public functions, and nothing else of them.
 -- Assumes nothing.
-use mathlib.Core.Path.{_≡_}
 use mathlib.Core.List.{List, [], _∷_}
 use Prim.Native.Nat.{ℕ}
-use Rattle.paper.specs.Numbers.{number}
+use Rattle.paper.specs.Numbers.{number, done}
 use Rattle.paper.specs.Adding.{Change}
 use Rattle.paper.specs.Loading.{Columns}
 use Rattle.tables.specs.Tables.{Tables}
@@ -42,7 +41,7 @@ numberOn (add x) t = judgedNumber (tablesJudged t x)
 numberOn (insert-actor p) t = actors.actorNumber (inserting t p)
 numberOn (remove-actor p) t = actors.actorNumber (removing t p)
 numberOn (load c) t = number (loading t c)
-numberOn forget t = 0
+numberOn forget t = number done
 
 -- the tables afterwards
 abbrev pub tablesOn : Operation → Tables → Tables

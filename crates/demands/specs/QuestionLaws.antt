@@ -1,14 +1,13 @@
--- Demand 1, of the questions: every answer is one of the paper's numbers, and every number but 0 leaves the buffer and the places as they were.
+-- Demand 1 of the questions: whatever tables are lent, the number is one of the paper's, and every number but that of done leaves the buffer and the places.
 -- Assumes nothing.
-use mathlib.Core.Path.{_≡_, refl, sym, ap, _∙_}
+use mathlib.Core.Path.{_≡_, refl, _∙_}
 use mathlib.Core.Bool.{Bool, true, false, cond, _&&_}
-use mathlib.Core.List.{List, _++_}
-use Prim.Native.Nat.{ℕ, _*_, _≤_}
+use mathlib.Core.List.{List, [], _∷_, _++_}
+use Prim.Native.Nat.{ℕ, _*_}
 use native.Mathlib.Omega.{arith}
 use lib.Dec.{leb, ltb, eqb}
 use lib.ListN.{length, drop}
-use borrow.Author.Tests.{leb-true, leb-false}
-use Rattle.paper.proofs.Bools.{by-bool}
+use Rattle.paper.specs.Numbers.{number, done, not-valid}
 use Rattle.paper.specs.Graph.{Graph, change-at, owner}
 use Rattle.tables.specs.Tables.{Tables, graph}
 use Rattle.tables.specs.Valid.{Lengths, Valid}
@@ -30,15 +29,21 @@ use Rattle.hub_heads.specs.Operations.{HeadsOf, HeadIndexes}
 use Rattle.hub_hashes.specs.Operations.{IndexToHash, HashForActorSeq}
 use Rattle.hub_deps.specs.Operations.{DepsForHash}
 use Rattle.hub_ancestors.specs.Operations.{RemoveAncestors}
-use Rattle.hub_sizes.specs.Operations.{ActorIds, whichOf}
-use Rattle.hub_answer.specs.Asks.{Reply, gives, refuses, replyNumber, toldBy, ofListed, Asks, Tells}
+use Rattle.hub_sizes.specs.Operations.{ActorIds, whichOf, Len, NumActors}
+use Rattle.hub_lookups.specs.Operations.{HashToIndex, HasChange}
+use Rattle.hub_counts.specs.Operations.{SeqForActor, MaxOpForActor, MaxOp}
+use Rattle.hub_current_heads.specs.Operations.{HeadsAreCurrent}
+use Rattle.hub_chained.specs.Operations.{IsChained}
+use Rattle.hub_answer.specs.Asks.{Reply, gives, refuses, replyNumber, toldBy, ofListed}
 use Rattle.demands.specs.Operations.{Operation, open-for, Promised, Runs}
-use Rattle.demands.specs.Demands.{stable, demand-3}
-use Rattle.demands.specs.Questions.{Question, clock-of, clock-at, missing-from, owner-of, heads, head-indexes, index-to-hash, hash-for-actor-seq, deps-for-hash, actor-ids, remove-ancestors, answerOn, bufferOn, Answers}
+use Rattle.demands.specs.Refusals.{InTable, NotDone, DemandOne}
+use Rattle.demands.specs.RefusalLaws.{in-table, by-answer, either-way}
+use Rattle.demands.specs.Demands.{demand-3}
+use Rattle.demands.specs.Questions.{Question, clock-of, clock-at, missing-from, owner-of, heads, head-indexes, index-to-hash, hash-for-actor-seq, deps-for-hash, actor-ids, remove-ancestors, answerOn, bufferOn, Answers, NumberQuestion, hash-to-index, has-change, seq-of-actor, max-op-of-actor, max-op-of-all, how-many, how-many-actors, are-heads, chained-asked, replyOf, numberAsked, AnswersNumber}
 
--- a refusal's number is not 0
+-- a refusal's number is not that of done
 abbrev refusedWith : Listed → Type 0
-refusedWith l = replyNumber (ofListed l) ≡ 0 → ⊥
+refusedWith l = NotDone (replyNumber (ofListed l))
 
 list-kept : (l out : List ℕ) → refusedWith (listAnswer l (length out)) → filled l out ≡ out
 unfolding listAnswer filled
@@ -82,45 +87,36 @@ kept (remove-ancestors l hs) t out =
     let r = outside-bytes (graph t) l hs in
     either-kept (whole-list l && whole-list hs) (listAnswer r (length out)) Malformed (filled r out) out (list-kept r out)
 
-untold : (y : Reply) (told : List ℕ) → (replyNumber y ≡ 0 → ⊥) → toldBy y told ≡ told
+untold : (y : Reply) (told : List ℕ) → NotDone (replyNumber y) → toldBy y told ≡ told
 untold (gives n) told z = absurd (z refl)
 untold (refuses o) told z = refl
 
-module _ (q : Question) (out told : List ℕ) (r : ℕ) (out′ told′ : List ℕ) (t : Tables) (p : Answers q out told r out′ told′ t) where
-  -- whether the tables are valid or not
-  not-changed : (r ≡ 0 → ⊥) → ((out′ ≡ out) × (told′ ≡ told) → ⊥) → ⊥
-  not-changed n d =
-      let invalid : Valid t → ⊥ = λ v. (let s = p .met v in let m : refusedWith (answerOn q (length out) t) = λ z. n (s .number ∙ z) in d (s .filled ∙ kept q t out m, s .places ∙ untold (ofListed (answerOn q (length out) t)) told m)) in
-      let u = p .unmet invalid in
-      d (u .1, u .2)
+-- every reply's number is one of the table's
+replied : (y : Reply) → InTable (replyNumber y)
+replied (gives n) = in-table done
+replied (refuses o) = in-table o
 
-  pub question-keeps : (r ≡ 0 → ⊥) → (out′ ≡ out) × (told′ ≡ told)
-  question-keeps n =
-      (stable out′ out (λ d. not-changed n (λ e. d (e .0))), stable told′ told (λ d. not-changed n (λ e. d (e .1))))
+-- with a buffer
+pub question-demand : (q : Question) (out told : List ℕ) (r : ℕ) (out′ told′ : List ℕ) (t : Tables) → Answers q out told r out′ told′ t → DemandOne r (out ∷ told ∷ []) (out′ ∷ told′ ∷ [])
+question-demand q out told r out′ told′ t p =
+    let l = answerOn q (length out) t in
+    either-way
+    (λ v. let s = p .met v in by-answer (s .number) (replied (ofListed l)) (λ n. both (s .filled ∙ kept q t out n) (s .places ∙ untold (ofListed l) told n)))
+    (λ i. let u = p .unmet i in by-answer (u .0) (in-table not-valid) (λ _. both (u .1) (u .2)))
+  where
+    both : out′ ≡ out → told′ ≡ told → (out′ ∷ told′ ∷ []) ≡ (out ∷ told ∷ [])
+    both a b = rw (a, b)
 
-  pub question-numbered : r ≤ 18
-  question-numbered =
-      by-bool (leb r 18) (leb-true r 18)
-      (λ f.
-      let large = leb-false r 18 f in
-      let invalid : Valid t → ⊥ = λ v. (let b = listed-small (answerOn q (length out) t) in omega (arith, p .met v .number)) in
-      let u = p .unmet invalid in
-      absurd (omega (arith, u .0)))
-    where
-      listed-small : (l : Listed) → replyNumber (ofListed l) ≤ 18
-      listed-small (Done n) = omega arith
-      listed-small Malformed = omega arith
-      listed-small NotFound = omega arith
-      listed-small NoOwner = omega arith
-      listed-small Short = omega arith
-
--- the questions without a buffer
-pub tells-keeps : {L : Type 0} (of : L → Reply) (answer : Tables → L) (told : List ℕ) (r : ℕ) (told′ : List ℕ) (t : Tables) → Tells of answer told r told′ t → (r ≡ 0 → ⊥) → told′ ≡ told
-tells-keeps of answer told r told′ t p n =
-    stable told′ told
-    (λ d.
-    let u = p .unmet (λ v. let s = p .met v in d (s .places ∙ untold (of (answer t)) told (λ z. n (s .number ∙ z)))) in
-    d (u .2))
+-- without one
+pub number-demand : (q : NumberQuestion) (told : List ℕ) (r : ℕ) (told′ : List ℕ) (t : Tables) → AnswersNumber q told r told′ t → DemandOne r (told ∷ []) (told′ ∷ [])
+number-demand q told r told′ t p =
+    let y = replyOf q (numberAsked q t) in
+    either-way
+    (λ v. let s = p .met v in by-answer (s .number) (replied y) (λ n. alone (s .places ∙ untold y told n)))
+    (λ i. let u = p .unmet i in by-answer (u .0) (in-table not-valid) (λ _. alone (u .2)))
+  where
+    alone : told′ ≡ told → (told′ ∷ []) ≡ (told ∷ [])
+    alone e = rw e
 
 -- ---- each question's public promise is this one
 
@@ -158,28 +154,56 @@ module _ (out told : List ℕ) (r : ℕ) (out′ told′ : List ℕ) (t : Tables
   pub is-remove-ancestors : (l hs : List ℕ) → RemoveAncestors l hs out told r out′ told′ t → Answers (remove-ancestors l hs) out told r out′ told′ t
   is-remove-ancestors l hs p = p
 
+module _ (told : List ℕ) (r : ℕ) (told′ : List ℕ) (t : Tables) where
+  pub is-hash-to-index : (h : List ℕ) → HashToIndex h told r told′ t → AnswersNumber (hash-to-index h) told r told′ t
+  is-hash-to-index h p = p
+
+  pub is-has-change : (h : List ℕ) → HasChange h told r told′ t → AnswersNumber (has-change h) told r told′ t
+  is-has-change h p = p
+
+  pub is-seq-for-actor : (a : ℕ) → SeqForActor a told r told′ t → AnswersNumber (seq-of-actor a) told r told′ t
+  is-seq-for-actor a p = p
+
+  pub is-max-op-for-actor : (a : ℕ) → MaxOpForActor a told r told′ t → AnswersNumber (max-op-of-actor a) told r told′ t
+  is-max-op-for-actor a p = p
+
+  pub is-max-op : MaxOp told r told′ t → AnswersNumber max-op-of-all told r told′ t
+  is-max-op p = p
+
+  pub is-len : Len told r told′ t → AnswersNumber how-many told r told′ t
+  is-len p = p
+
+  pub is-num-actors : NumActors told r told′ t → AnswersNumber how-many-actors told r told′ t
+  is-num-actors p = p
+
+  pub is-heads-are-current : (l : List ℕ) → HeadsAreCurrent l told r told′ t → AnswersNumber (are-heads l) told r told′ t
+  is-heads-are-current l p = p
+
+  pub is-chained : IsChained told r told′ t → AnswersNumber chained-asked told r told′ t
+  is-chained p = p
+
 -- ---- demand 3 as it is asked from C
 
--- a list that was answered with 0 stands in the buffer, and what lay past it stays
-list-answered : (l out : List ℕ) → 0 ≡ replyNumber (ofListed (listAnswer l (length out))) → filled l out ≡ l ++ drop (length l) out
+-- a list that was answered stands in the buffer, and what lay past it stays
+list-answered : (l out : List ℕ) → number done ≡ replyNumber (ofListed (listAnswer l (length out))) → filled l out ≡ l ++ drop (length l) out
 unfolding listAnswer filled
 list-answered l out = go (leb (length l) (length out))
   where
-    go : (b : Bool) → 0 ≡ replyNumber (ofListed (cond b (Done (length l)) Short)) → cond b (l ++ drop (length l) out) out ≡ l ++ drop (length l) out
+    go : (b : Bool) → number done ≡ replyNumber (ofListed (cond b (Done (length l)) Short)) → cond b (l ++ drop (length l) out) out ≡ l ++ drop (length l) out
     go true e = refl
     go false e = absurd (omega arith)
 
 -- behind a test of what was lent
-tested-answered : (b : Bool) (l out : List ℕ) → 0 ≡ replyNumber (ofListed (cond b (listAnswer l (length out)) Malformed)) → cond b (filled l out) out ≡ l ++ drop (length l) out
+tested-answered : (b : Bool) (l out : List ℕ) → number done ≡ replyNumber (ofListed (cond b (listAnswer l (length out)) Malformed)) → cond b (filled l out) out ≡ l ++ drop (length l) out
 tested-answered true l out e = list-answered l out e
 tested-answered false l out e = absurd (omega arith)
 
--- where the clock of a list is answered with 0, the buffer holds the paper's clock, an entry for each actor
-pub clock-answered : (list out told out′ told′ : List ℕ) (t : Tables) → Valid t → ClockOf list out told 0 out′ told′ t → out′ ≡ whole-clock t list ++ drop (length (whole-clock t list)) out
+-- where the clock of a list is answered, the buffer holds the paper's clock, an entry for each actor
+pub clock-answered : (list out told out′ told′ : List ℕ) (t : Tables) → Valid t → ClockOf list out told (number done) out′ told′ t → out′ ≡ whole-clock t list ++ drop (length (whole-clock t list)) out
 unfolding clock-told clock-filled
 clock-answered list out told out′ told′ t v p = let s = p .met v in s .filled ∙ tested-answered (whole-list list) (whole-clock t list) out (s .number)
 
 -- so from opened tables on, after any operations
-pub demand-3-asked : (a : ℕ) (os : List Operation) (t t₀ t′ : Tables) → Lengths t → Promised (open-for a) t 0 t₀ → Runs t₀ os t′ → (list out told out′ told′ : List ℕ) → ClockOf list out told 0 out′ told′ t′
+pub demand-3-asked : (a : ℕ) (os : List Operation) (t t₀ t′ : Tables) → Lengths t → Promised (open-for a) t (number done) t₀ → Runs t₀ os t′ → (list out told out′ told′ : List ℕ) → ClockOf list out told (number done) out′ told′ t′
     → out′ ≡ whole-clock t′ list ++ drop (length (whole-clock t′ list)) out
 demand-3-asked a os t t₀ t′ l p runs list out told out′ told′ = clock-answered list out told out′ told′ t′ (demand-3 a os t t₀ t′ l p runs .valid)

@@ -8,7 +8,7 @@ use lib.ListN.{length}
 use Rattle.paper.specs.Session.{session, numberIn, lengthIn, bufferIn}
 use Rattle.clock_checked.specs.Told.{getTold, opTold, insertTold, removeTold, afterTold, beforeTold}
 use Rattle.hub_clock_slices.specs.Face.{SliceAsked, SliceGave, SliceChanged, rangeOf}
-use Rattle.clock_struct.specs.Clocks.{struct-done, struct-asked, includeDone, mergeDone, isolateDone, coversAsked}
+use Rattle.clock_struct.specs.Clocks.{ClockIncluded, ClockMerged, ClockIsolated, ClockCovered}
 use Rattle.clock_struct.specs.declared.Clock.{Clock}
 use Rattle.one_outcome.specs.Shapes.{settled, slice-asked-once, slice-gave-once, slice-changed-once, struct-done-once, struct-asked-once}
 
@@ -46,26 +46,26 @@ same-clock : (c d : Clock) → c .entries ≡ d .entries → c .count ≡ d .cou
 same-clock c d p q = ap₂ (λ (e : List ℕ) (n : ℕ). record { entries = e; count = n }) p q
 
 pub cg-clock-include-once : (c : Clock) (place seq rose r′ : ℕ) (c′ : Clock) (rose′ r″ : ℕ) (c″ : Clock) (rose″ : ℕ)
-    → (struct-done r′ rose′ (c′ .entries) ≡ includeDone (c .entries) (c .count) place seq rose) × (c′ .count ≡ c .count)
-    → (struct-done r″ rose″ (c″ .entries) ≡ includeDone (c .entries) (c .count) place seq rose) × (c″ .count ≡ c .count)
+    → ClockIncluded (c .entries) (c .count) place seq rose r′ (c′ .entries) (c′ .count) rose′
+    → ClockIncluded (c .entries) (c .count) place seq rose r″ (c″ .entries) (c″ .count) rose″
     → (r′ ≡ r″) × (c′ ≡ c″) × (rose′ ≡ rose″)
 cg-clock-include-once c place seq rose r′ c′ rose′ r″ c″ rose″ p q = let e = struct-done-once (p .0) (q .0) in (e .0, same-clock c′ c″ (e .2) (settled (p .1) (q .1)), e .1)
 
 pub cg-clock-merge-once : (a b : Clock) (r′ : ℕ) (a′ : Clock) (r″ : ℕ) (a″ : Clock)
-    → (struct-done r′ 0 (a′ .entries) ≡ mergeDone (a .entries) (a .count) (b .entries) (b .count)) × (a′ .count ≡ a .count)
-    → (struct-done r″ 0 (a″ .entries) ≡ mergeDone (a .entries) (a .count) (b .entries) (b .count)) × (a″ .count ≡ a .count)
+    → ClockMerged (a .entries) (a .count) (b .entries) (b .count) r′ (a′ .entries) (a′ .count)
+    → ClockMerged (a .entries) (a .count) (b .entries) (b .count) r″ (a″ .entries) (a″ .count)
     → (r′ ≡ r″) × (a′ ≡ a″)
 cg-clock-merge-once a b r′ a′ r″ a″ p q = let e = struct-done-once (p .0) (q .0) in (e .0, same-clock a′ a″ (e .2) (settled (p .1) (q .1)))
 
 pub cg-clock-isolate-once : (e : Clock) (place r′ : ℕ) (e′ : Clock) (r″ : ℕ) (e″ : Clock)
-    → (struct-done r′ 0 (e′ .entries) ≡ isolateDone (e .entries) (e .count) place) × (e′ .count ≡ e .count)
-    → (struct-done r″ 0 (e″ .entries) ≡ isolateDone (e .entries) (e .count) place) × (e″ .count ≡ e .count)
+    → ClockIsolated (e .entries) (e .count) place r′ (e′ .entries) (e′ .count)
+    → ClockIsolated (e .entries) (e .count) place r″ (e″ .entries) (e″ .count)
     → (r′ ≡ r″) × (e′ ≡ e″)
 cg-clock-isolate-once e place r′ e′ r″ e″ p q = let d = struct-done-once (p .0) (q .0) in (d .0, same-clock e′ e″ (d .2) (settled (p .1) (q .1)))
 
 pub cg-clock-covers-once : (a b : Clock) (covered r′ covered′ r″ covered″ : ℕ)
-    → struct-asked r′ covered′ ≡ coversAsked (a .entries) (a .count) (b .entries) (b .count) covered
-    → struct-asked r″ covered″ ≡ coversAsked (a .entries) (a .count) (b .entries) (b .count) covered
+    → ClockCovered (a .entries) (a .count) (b .entries) (b .count) covered r′ covered′
+    → ClockCovered (a .entries) (a .count) (b .entries) (b .count) covered r″ covered″
     → (r′ ≡ r″) × (covered′ ≡ covered″)
 cg-clock-covers-once a b covered r′ covered′ r″ covered″ p q = struct-asked-once p q
 

@@ -20,7 +20,7 @@ use Rattle.clock_checked.specs.declared.Answer.{Answer}
 use Rattle.clock_checked.specs.declared.Got.{Got}
 use Rattle.hub_clock_slices.specs.Face.{SliceAsked, SliceGave, SliceChanged}
 use Rattle.clock_struct.specs.Clocks.{StructDone, struct-done, StructAsked, struct-asked}
-use Rattle.demands.specs.Demands.{stable}
+use Rattle.demands.specs.RefusalLaws.{stable}
 
 -- ---- whether what is lent is valid or not
 
