@@ -6,6 +6,7 @@ pub mod Caching
 pub mod Adding
 pub mod Loading
 pub mod Queue
+pub mod Books
 pub mod Bytes
 pub mod Text
 pub mod Command

@@ -11,8 +11,9 @@ use lib.ListN.{length, take, getD, length-take}
 use lib.Seq.{getD-take}
 use borrow.Author.Tests.{ltb-true}
 use Rattle.paper.specs.Lists.{sameList, mem, names, pick, every}
-use Rattle.paper.specs.Queue.{Waiting, Queue, among, met, first, freed, orderFrom, order, rest, branch, children, dropFrom, dropped, kept, changes-at}
+use Rattle.paper.specs.Queue.{Waiting, Queue, among, met, first, freed, orderFrom, order, rest, branch, children, dropFrom, dropped, kept}
 use Rattle.paper.proofs.Bools.{by-bool, or-cases, mem-here, mem-append, mem-getD, mem-place, or-right, mem-cons, pick-mem, pick-ext, or-left}
+use Rattle.paper.specs.Books.{changes-at}
 
 -- the same size, and the same changes below it
 pub record Alike (p q : Queue) : Type 0 where

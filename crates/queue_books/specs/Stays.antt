@@ -13,7 +13,7 @@ use lib.ListN.{length, getD, set, length-set, take, drop, length-take}
 use lib.Seq.{getD-set-same, getD-take, take-length}
 use borrow.Author.Tests.{ltb-false}
 use Rattle.paper.specs.Lists.{names, each-below, pick, tally, hashAt, hashes-of, hashes-from}
-use Rattle.paper.specs.Queue.{Waiting, Queue, Distinct, order, changes-at}
+use Rattle.paper.specs.Queue.{Waiting, Queue, Distinct, order}
 use Rattle.paper.proofs.Bools.{by-bool, not-both, or-left, or-right, below-or-not, mem-getD}
 use Rattle.paper.proofs.Ready.{listed-low, found-earlier, among-place}
 use Rattle.paper.proofs.Count.{pick-length, tally-most}
@@ -30,6 +30,7 @@ use Rattle.batch.specs.declared.Pushed.{Pushed}
 use Rattle.queue.specs.Hand.{clashAt, anyClash, handedAs, Appended}
 use Rattle.queue.specs.HandLaws.{clash-hit}
 use Rattle.release.specs.Release.{readyOf}
+use Rattle.paper.specs.Books.{changes-at}
 use Rattle.queue_books.specs.View.{recordsOf}
 use Rattle.queue_books.specs.Stands.{Whole, Stands, filled-stands, copied-here, copied-before, count-here, count-before, lengths-kept, distinct-places, pick-once, pick-low, distinct-join, each-ext, each-add, each-map}
 
@@ -73,8 +74,8 @@ nothing-distinct hs ns ds = record { hashes = λ i j a b e. absurd (omega arith)
 -- ---- opening, and emptying
 
 -- tables of lengths that agree, with the count 0, are valid
-pub opened-valid : {hs ns ds cs cs′ : List ℕ} → StoreLaid hs ns ds cs → cs′ ≡ set cs 0 0 → StoreValid hs ns ds cs′
-opened-valid {hs} {ns} {ds} {cs} {cs′} l e =
+pub open-valid : {hs ns ds cs cs′ : List ℕ} → StoreLaid hs ns ds cs → cs′ ≡ set cs 0 0 → StoreValid hs ns ds cs′
+open-valid {hs} {ns} {ds} {cs} {cs′} l e =
     let w : waiting cs′ ≡ 0 = ap (λ (x : List ℕ). getD x 0 0) e ∙ count-set cs 0 (l .one-count) in
     record {
       sized =
@@ -211,7 +212,7 @@ module _ {hs ns ds cs bhs bns bds bcs hs′ ns′ ds′ cs′ bcs′ : List ℕ}
 
   -- the batch is empty, and valid
   pub emptied-valid : StoreValid bhs bns bds bcs′
-  emptied-valid = opened-valid (b .sized .laid) (a .emptied)
+  emptied-valid = open-valid (b .sized .laid) (a .emptied)
 
   pub emptied-list : recordsOf bhs bns bds (waiting bcs′) ≡ []
   emptied-list = opened-list bhs bns bds bcs (b .sized .laid .one-count) (a .emptied)
