@@ -251,11 +251,50 @@ static void clocks(void) {
   expect(memcmp(was, c, 16) == 0, "questions leave every entry");
 }
 
+/* A slice of 64 entries may be lent; one of 65 is not valid, whatever its count, and nothing changes. */
+static void clock_limits(void) {
+  uint32_t *most = guarded(4 * 64, 0), *many = guarded(4 * 65, 0), was[65];
+  uint64_t *told = guarded(8, 0);
+  for (uint32_t i = 0; i < 64; i++) {
+    most[i] = i + 1, many[i] = i + 1;
+  }
+  many[64] = 65;
+  memcpy(was, many, sizeof was);
+  for (size_t count = 0; count <= 66; count++) {
+    uint32_t r = count <= 64 ? CG_DONE : CG_NOT_VALID;
+    told[0] = UNTOLD;
+    uint64_t entry = r != CG_DONE ? UNTOLD : count > 0;
+    expect(cg_clock_get(most, 64, count, 0, told, 1) == r && told[0] == entry, "an entry of 64");
+    told[0] = UNTOLD;
+    expect(cg_clock_get(many, 65, count, 0, told, 1) == CG_NOT_VALID, "an entry of 65");
+    expect(cg_clock_op_covers(many, 65, count, 0, 0, told, 1) == CG_NOT_VALID, "covers of 65");
+    expect(cg_clock_rewrite_with_new_actor(many, 65, count, 0) == CG_NOT_VALID, "a new actor of 65");
+    expect(cg_clock_remove_actor(many, 65, count, 0) == CG_NOT_VALID, "an actor less of 65");
+    for (uint32_t kind = CG_RANGE_CURRENT; kind <= CG_RANGE_DIFF; kind++) {
+      expect(cg_clock_visible_after(kind, many, 65, count, most, 64, 64, 0, 0, told, 1) == CG_NOT_VALID, "visible after, 65 before");
+      expect(cg_clock_visible_after(kind, most, 64, 64, many, 65, count, 0, 0, told, 1) == CG_NOT_VALID, "visible after, 65 after");
+      expect(cg_clock_visible_before(kind, many, 65, count, most, 64, 64, 0, 0, told, 1) == CG_NOT_VALID, "visible before, 65 before");
+      expect(cg_clock_visible_before(kind, most, 64, 64, many, 65, count, 0, 0, told, 1) == CG_NOT_VALID, "visible before, 65 after");
+    }
+    expect(told[0] == UNTOLD && memcmp(was, many, sizeof was) == 0 && memcmp(was, most, 4 * 64) == 0, "65 entries leave every entry and the place");
+  }
+  expect(cg_clock_op_covers(most, 64, 64, 63, 64, told, 1) == CG_DONE && told[0] == 1, "covers of 64");
+  for (uint32_t kind = CG_RANGE_CURRENT; kind <= CG_RANGE_DIFF; kind++) {
+    expect(cg_clock_visible_after(kind, most, 64, 64, most, 64, 64, 63, 64, told, 1) == CG_DONE && told[0] == 1, "visible after of 64");
+    expect(cg_clock_visible_before(kind, most, 64, 64, most, 64, 64, 63, 64, told, 1) == CG_DONE && told[0] == (kind == CG_RANGE_DIFF), "visible before of 64");
+  }
+  expect(cg_clock_rewrite_with_new_actor(most, 64, 64, 0) == CG_NO_ACTOR_ROOM && memcmp(was, most, 4 * 64) == 0, "a clock of 64 is full");
+  expect(cg_clock_remove_actor(most, 64, 64, 0) == CG_DONE && most[0] == 2 && most[62] == 64 && most[63] == 0, "an actor less of 64");
+  expect(cg_clock_rewrite_with_new_actor(most, 64, 63, 0) == CG_DONE && most[0] == 0 && most[1] == 2 && most[63] == 64, "a new actor of 64");
+  unguard(most, 4 * 64), unguard(many, 4 * 65), unguard(told, 8);
+}
+
 int main(void) {
   loading();
   columns_refused();
   lengths();
   forgetting();
   clocks();
+  clock_limits();
   return summed_up("loading, forgetting and clocks on slices");
 }

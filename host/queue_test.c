@@ -193,33 +193,31 @@ static void dropping(void) {
 
 static void releasing(void) {
   uint64_t *told = guarded(16, 0);
-  /* against a whole graph and against its hashes, into tables of the exact length, one short and one long */
-  for (int whole = 0; whole < 2; whole++) {
-    for (int table = -1; table < 3; table++) {
-      for (int more = -1; more <= 1; more += 2) {
-        size_t len[3] = {4 * 32, 4 * 5, 4 * 1024};
-        if (table >= 0) {
-          len[table] += (size_t)more;
-        }
-        Graph g = graph_with(0);
-        Queue q = sample(5), to = queue_long(len[0], len[1], len[2], 0, 0xAA);
-        uint8_t *before = queue_copy(&q), *answer = queue_copy(&to);
-        told[0] = UNTOLD, told[1] = UNTOLD;
-        uint32_t r = whole ? cg_release(GRAPH(&g), QUEUE(&q), ANSWER(&to), told, 2) : cg_queue_release(g.hashes, 128, 0, QUEUE(&q), ANSWER(&to), told, 2);
-        if (table >= 0 && more < 0) {
-          expect(r == CG_SHORT_BUFFER && told[0] == UNTOLD, "a release into a table one short");
-          expect(queue_same(&to, answer) && queue_same(&q, before), "15 leaves every byte");
-        } else {
-          expect(r == CG_DONE && told[0] == 4 && told[1] == UNTOLD && q.count[0] == 0, "four are released");
-          expect(stands(&to, 0, 1) && stands(&to, 1, 4) && stands(&to, 2, 2) && stands(&to, 3, 3), "in ready order: a, d, b, c");
-          expect(to.numbers[14] == 2 && memcmp(to.deps + 2 * 1024, to.deps + 2 * 1024 + 32, 32) == 0 && to.deps[0] == 0xAA && to.deps[2 * 1024 + 64] == 0xAA, "with their dependencies, and nothing else");
-          q.count[0] = 4;
-          expect(queue_same(&q, before), "of the queue the count alone changes");
-          free(answer);
-        }
-        queue_free(&q);
-        queue_free(&to);
+  /* into tables of the exact length, one short and one long */
+  for (int table = -1; table < 3; table++) {
+    for (int more = -1; more <= 1; more += 2) {
+      size_t len[3] = {4 * 32, 4 * 5, 4 * 1024};
+      if (table >= 0) {
+        len[table] += (size_t)more;
       }
+      Graph g = graph_with(0);
+      Queue q = sample(5), to = queue_long(len[0], len[1], len[2], 0, 0xAA);
+      uint8_t *before = queue_copy(&q), *answer = queue_copy(&to);
+      told[0] = UNTOLD, told[1] = UNTOLD;
+      uint32_t r = cg_release(GRAPH(&g), QUEUE(&q), ANSWER(&to), told, 2);
+      if (table >= 0 && more < 0) {
+        expect(r == CG_SHORT_BUFFER && told[0] == UNTOLD, "a release into a table one short");
+        expect(queue_same(&to, answer) && queue_same(&q, before), "15 leaves every byte");
+      } else {
+        expect(r == CG_DONE && told[0] == 4 && told[1] == UNTOLD && q.count[0] == 0, "four are released");
+        expect(stands(&to, 0, 1) && stands(&to, 1, 4) && stands(&to, 2, 2) && stands(&to, 3, 3), "in ready order: a, d, b, c");
+        expect(to.numbers[14] == 2 && memcmp(to.deps + 2 * 1024, to.deps + 2 * 1024 + 32, 32) == 0 && to.deps[0] == 0xAA && to.deps[2 * 1024 + 64] == 0xAA, "with their dependencies, and nothing else");
+        q.count[0] = 4;
+        expect(queue_same(&q, before), "of the queue the count alone changes");
+        free(answer);
+      }
+      queue_free(&q);
+      queue_free(&to);
     }
   }
   /* what is known holds nobody up; what is not waits on, and closes up */
@@ -230,17 +228,15 @@ static void releasing(void) {
   expect(cg_release(GRAPH(&g), QUEUE(&q), ANSWER(&to), told, 1) == CG_DONE && told[0] == 1 && stands(&to, 0, 2), "the graph's change is known");
   expect(q.count[0] == 2 && stands(&q, 0, 8) && stands(&q, 1, 7), "the rest closes up");
   expect(cg_release(GRAPH(&g), QUEUE(&q), ANSWER(&to), told, 1) == CG_DONE && told[0] == 0 && q.count[0] == 2, "nothing more is ready: one names itself");
-  expect(cg_queue_release(g.hashes, 32, 1, QUEUE(&q), ANSWER(&to), told + 2, 0) == CG_DONE, "no place for the count");
+  expect(cg_release(GRAPH(&g), QUEUE(&q), ANSWER(&to), told + 2, 0) == CG_DONE, "no place for the count");
   uint8_t *before = queue_copy(&q);
   told[0] = UNTOLD;
-  expect(cg_queue_release(g.hashes, 31, 1, QUEUE(&q), ANSWER(&to), told, 1) == CG_NOT_VALID && told[0] == UNTOLD, "a table with fewer hashes than are known");
-  expect(cg_queue_release(g.hashes, 128, SIZE_MAX, QUEUE(&q), ANSWER(&to), told, 1) == CG_NOT_VALID && told[0] == UNTOLD, "the largest number of known ones");
 
   /* a graph that is not valid: one field damaged at a time */
   struct {
     uint32_t *at;
     uint32_t value;
-  } harm[] = {{&g.counts[0], 5}, {&g.counts[1], 1}, {&g.counts[2], 4}, {&g.counts[2], 0}, {&g.nodes[0], 2}, {&g.nodes[1], 2}, {&g.nodes[3], 2}, {&g.nodes[4], 1}, {&g.nodes[5], 0}, {&g.clocks[0], 2}};
+  } harm[] = {{&g.counts[0], 5}, {&g.counts[0], UINT32_MAX}, {&g.counts[1], 1}, {&g.counts[2], 4}, {&g.counts[2], 0}, {&g.nodes[0], 2}, {&g.nodes[1], 2}, {&g.nodes[3], 2}, {&g.nodes[4], 1}, {&g.nodes[5], 0}, {&g.clocks[0], 2}};
   uint8_t *answer = queue_copy(&to);
   for (size_t i = 0; i < sizeof harm / sizeof *harm; i++) {
     uint32_t was = *harm[i].at;
@@ -248,7 +244,12 @@ static void releasing(void) {
     expect(cg_release(GRAPH(&g), QUEUE(&q), ANSWER(&to), told, 1) == CG_NOT_VALID && told[0] == UNTOLD, "a graph that is not valid");
     *harm[i].at = was;
   }
-  size_t right[5] = {128, 24, 4, 12, 3};
+  Graph twice = graph_with(2);
+  memcpy(twice.hashes + 32, twice.hashes, 32);
+  expect(cg_release(GRAPH(&twice), QUEUE(&q), ANSWER(&to), told, 1) == CG_NOT_VALID && told[0] == UNTOLD, "a graph that has a hash twice");
+  Graph many = graph_of(4097, 4, 3, 0);
+  expect(cg_release(GRAPH(&many), QUEUE(&q), ANSWER(&to), told, 1) == CG_NOT_VALID && told[0] == UNTOLD, "a graph with more room than 4,096");
+  size_t right[5] = {128, 24, 4, 12, 3}; /* 127 bytes of hashes end inside the fourth */
   for (int t = 0; t < 5; t++) {
     for (int more = -1; more <= 1; more += 2) {
       size_t n[5];
@@ -268,6 +269,8 @@ static void releasing(void) {
     }
   }
   expect(queue_same(&q, before) && queue_same(&to, answer), "a graph that is not valid leaves queue and answer");
+  Graph most = graph_of(4096, 4, 3, 0);
+  expect(cg_release(GRAPH(&most), QUEUE(&q), ANSWER(&to), told, 1) == CG_DONE && told[0] == 0, "room for 4,096 changes, none of them known");
   queue_free(&q);
   queue_free(&to);
   unguard(told, 16);
@@ -289,7 +292,6 @@ static void all_refuse(Queue *bad, int opens, const char *what) {
   expect(cg_queue_has_actor_seq(QUEUE(bad), 30, 1, told, 1) == CG_NOT_VALID, what);
   expect(cg_queue_iter(QUEUE(bad), ANSWER(&none), told, 1) == CG_NOT_VALID, what);
   expect(cg_remove_actor_branch_from(QUEUE(bad), 30, 0) == CG_NOT_VALID, what);
-  expect(cg_queue_release(g.hashes, 32, 1, QUEUE(bad), ANSWER(&none), told, 1) == CG_NOT_VALID, what);
   expect(cg_release(GRAPH(&g), QUEUE(bad), ANSWER(&none), told, 1) == CG_NOT_VALID, what);
   expect(opens || cg_queue_open(QUEUE(bad)) == CG_NOT_VALID, what);
   expect(queue_same(bad, before) && queue_same(&good, other) && told[0] == UNTOLD, what);

@@ -19,7 +19,7 @@ extern "C" {
  * CG_SHORT_BUFFER, which becomes all zeros, and the place in which cg_add tells with CG_UNKNOWN_DEPENDENCY which one is unknown. */
 enum {
   CG_DONE = 0,                /* done */
-  CG_NOT_VALID = 1,           /* lent tables or queue not valid, or two clocks of different lengths to compare */
+  CG_NOT_VALID = 1,           /* lent tables, queue or clock not valid, or two clocks of different lengths to compare */
   CG_MALFORMED = 2,           /* a hash is not 32 bytes, or a list of hashes no multiple of 32 */
   CG_ALREADY_KNOWN = 3,       /* the hash is known: the change counts as accepted, nothing changes */
   CG_UNKNOWN_DEPENDENCY = 4,  /* a dependency is unknown; the first in the order listed is named */
@@ -316,13 +316,6 @@ uint32_t cg_release(const uint8_t *hashes, size_t hashes_len, const uint32_t *no
                     uint32_t *queue_count, size_t queue_count_len, uint8_t *to_hashes, size_t to_hashes_len, uint64_t *to_numbers,
                     size_t to_numbers_len, uint8_t *to_deps, size_t to_deps_len, uint64_t *told, size_t told_len);
 
-/* The same against the first `known` hashes of a table: for a caller that knows its graph to be valid and would not have it checked each time.
- * CG_NOT_VALID also where the table has fewer than `known`. */
-uint32_t cg_queue_release(const uint8_t *hashes, size_t hashes_len, size_t known, uint8_t *queue_hashes, size_t queue_hashes_len,
-                          uint64_t *queue_numbers, size_t queue_numbers_len, uint8_t *queue_deps, size_t queue_deps_len, uint32_t *queue_count,
-                          size_t queue_count_len, uint8_t *to_hashes, size_t to_hashes_len, uint64_t *to_numbers, size_t to_numbers_len,
-                          uint8_t *to_deps, size_t to_deps_len, uint64_t *told, size_t told_len);
-
 /* ---- clocks: an entry for each actor, 0 for nothing. A count above 64 is CG_NOT_VALID, a place not below the count CG_NO_ACTOR. */
 
 typedef struct Clock {
@@ -342,8 +335,9 @@ uint32_t cg_clock_covers(const Clock *clock, const Clock *other, uint32_t *yes);
 /* The entry becomes 4,294,967,295. */
 uint32_t cg_clock_isolate(Clock *clock, size_t place);
 
-/* ---- clocks on slices: the entries, and how many of them are in use (for a Clock: entries, 64, count). A count above the entries lent is CG_NOT_VALID. A yes (1) or
- * no (0), and an entry, are told in told[0], with CG_DONE alone; `told_len` may be 0: then nothing is told, which is no refusal. */
+/* ---- clocks on slices: the entries, at most 64, and how many of them are in use (for a Clock: entries, 64, count). More than 64 entries lent, or a count above
+ * them, is CG_NOT_VALID. A yes (1) or no (0), and an entry, are told in told[0], with CG_DONE alone; `told_len` may be 0: then nothing is told, which is no
+ * refusal. */
 
 /* Tells the entry at the place, and 0 for a place not below the count. CG_DONE, CG_NOT_VALID. */
 uint32_t cg_clock_get(const uint32_t *entries, size_t entries_len, size_t count, size_t place, uint64_t *told, size_t told_len);
@@ -358,15 +352,15 @@ uint32_t cg_clock_rewrite_with_new_actor(uint32_t *entries, size_t entries_len, 
 /* The actor at the place goes: entries past it move down by one, and 0 stands where the last one was. The count is the caller's to lower. CG_DONE, CG_NOT_VALID, CG_NO_ACTOR. */
 uint32_t cg_clock_remove_actor(uint32_t *entries, size_t entries_len, size_t count, size_t place);
 
-/* A range of history between two op clocks. Of a kind, clocks that are not named are not asked, but their counts are checked. */
+/* A range of history between two op clocks. Of a kind, clocks that are not named are not asked, but they are checked. */
 enum {
   CG_RANGE_CURRENT = 0,    /* all that there is */
   CG_RANGE_CURRENT_AT = 1, /* all up to the clock `after` */
   CG_RANGE_DIFF = 2        /* from the clock `before` to the clock `after`; every larger number is this kind too */
 };
 
-/* Tells whether the op is visible at the range's end, and whether it is older than the range. CG_DONE, CG_NOT_VALID (a count above its entries, of either clock),
- * CG_NO_ACTOR (a clock that is asked has no such place). */
+/* Tells whether the op is visible at the range's end, and whether it is older than the range. CG_DONE, CG_NOT_VALID (more than 64 entries,
+ * or a count above them, of either clock), CG_NO_ACTOR (a clock that is asked has no such place). */
 uint32_t cg_clock_visible_after(uint32_t kind, const uint32_t *before, size_t before_len, size_t before_count, const uint32_t *after, size_t after_len,
                                 size_t after_count, size_t actor, uint64_t counter, uint64_t *told, size_t told_len);
 uint32_t cg_clock_visible_before(uint32_t kind, const uint32_t *before, size_t before_len, size_t before_count, const uint32_t *after, size_t after_len,

@@ -653,9 +653,7 @@ static int of_queue(void) {
     uint64_t k = number_of(field[1]), s = number_of(field[2]);
     say_yes(ASK(PLAIN, cg_queue_has_actor_seq(WAITING(queue), k, s, told, 1)));
   } else if (is("qpop", 0)) {
-    /* against the whole graph, or against its table of hashes */
-    uint32_t r = after(++questions % 2 == 0 ? cg_release(GRAPH, WAITING(queue), given.hashes, 32 * Q, given.numbers, 5 * Q, given.deps, 1024 * Q, told, 1)
-                                            : cg_queue_release(hashes, 32 * N, counts[0], WAITING(queue), given.hashes, 32 * Q, given.numbers, 5 * Q, given.deps, 1024 * Q, told, 1));
+    uint32_t r = after(cg_release(GRAPH, WAITING(queue), given.hashes, 32 * Q, given.numbers, 5 * Q, given.deps, 1024 * Q, told, 1));
     if (r != 0) {
       say(r);
     } else {

@@ -33,7 +33,8 @@ extern "C" {
     fn cg_queue_open(h: *const u8, hl: Size, n: *const u64, nl: Size, d: *const u8, dl: Size, c: *mut u32, cl: Size) -> u32;
     fn cg_batch_push(h: *mut u8, hl: Size, n: *mut u64, nl: Size, d: *mut u8, dl: Size, c: *mut u32, cl: Size,
         hash: *const u8, hash_len: Size, key: u64, seq: u64, max: u64, ops: u64, deps: *const u8, deps_len: Size) -> u32;
-    fn cg_queue_release(known: *const u8, known_len: Size, count: Size, h: *mut u8, hl: Size, n: *mut u64, nl: Size, d: *mut u8, dl: Size, c: *mut u32, cl: Size,
+    fn cg_release(gh: *const u8, ghl: Size, gn: *const u32, gnl: Size, e: *const Edge, el: Size, k: *const u32, kl: Size, u: *const u32, ul: Size,
+        h: *mut u8, hl: Size, n: *mut u64, nl: Size, d: *mut u8, dl: Size, c: *mut u32, cl: Size,
         th: *mut u8, thl: Size, tn: *mut u64, tnl: Size, td: *mut u8, tdl: Size, told: *mut u64, told_len: Size) -> u32;
     fn bare_add(h: *mut u8, hl: Size, n: *mut u32, nl: Size, t: *mut u32, tl: Size, x: *mut u32, xl: Size, c: *mut u32, cl: Size, u: *mut u32, ul: Size,
         hash: *const u8, hash_len: Size, actor: u64, seq: u64, max: u64, ops: u64, deps: *const u8, deps_len: Size) -> u32;
@@ -390,7 +391,7 @@ fn releasing() -> Case {
         }
     }
     let (mut th, mut tn, mut td, mut told) = (h.clone(), n.clone(), d.clone(), [0u64; 1]);
-    let known = [0u8; 0];
+    let empty = Lent::new(Q);
     let (mut queues, mut tables) = (Ready::new(q), Ready::new((h, n, d, c)));
     Case {
         name: format!("release of {Q}"),
@@ -400,9 +401,10 @@ fn releasing() -> Case {
             None,
             Some(Box::new(move || {
                 let (h, n, d, c) = tables.next();
-                let r = unsafe {
-                    cg_queue_release(known.as_ptr(), 0, 0, h.as_mut_ptr(), h.len(), n.as_mut_ptr(), n.len(), d.as_mut_ptr(), d.len(), c.as_mut_ptr(), 1, th.as_mut_ptr(), th.len(), tn.as_mut_ptr(), tn.len(), td.as_mut_ptr(), td.len(), told.as_mut_ptr(), 1)
-                };
+                let r = public!(
+                    cg_release, empty, h.as_mut_ptr(), h.len(), n.as_mut_ptr(), n.len(), d.as_mut_ptr(), d.len(), c.as_mut_ptr(), 1, th.as_mut_ptr(), th.len(),
+                    tn.as_mut_ptr(), tn.len(), td.as_mut_ptr(), td.len(), told.as_mut_ptr(), 1
+                );
                 assert_eq!((r, told[0]), (0, Q as u64));
                 told[0]
             })),

@@ -2,7 +2,7 @@
 -- Assumes nothing.
 use Prim.Native.Nat.{ℕ}
 use mathlib.Core.List.{List, _++_}
-use mathlib.Core.Bool.{Bool, true, false, cond}
+use mathlib.Core.Bool.{Bool, true, false, cond, _&&_}
 use lib.ListN.{length, getD, take, drop}
 use lib.Dec.{eqb, ltb, leb}
 use Rattle.paper.specs.Numbers.{Outcome, number, done, not-valid, no-actor, no-actor-room}
@@ -55,30 +55,34 @@ pub record EntriesLeft : Type 0 where
 abbrev pub entries-left : Answer → List ℕ → EntriesLeft
 entries-left r c = record { answer = r; entries = c }
 
+-- a clock may be lent: at most 64 entries, and the count of those in use not above them
+abbrev pub clockLendable : List ℕ → ℕ → Bool
+clockLendable c n = leb (length c) 64 && leb n (length c)
+
 abbrev pub getTold : List ℕ → ℕ → ℕ → Got
-getTold c n a = cond (ltb (length c) n) got.NotValid (got.Entry (getD (take n c) a 0))
+getTold c n a = cond (clockLendable c n) (got.Entry (getD (take n c) a 0)) got.NotValid
 
 abbrev pub includeTold : List ℕ → ℕ → ℕ → Entry → EntriesLeft
-includeTold c n a e = cond (ltb (length c) n) (entries-left NotValid c) (cond (leb n a) (entries-left NoPlace c) (entries-left (clockYesNo (takes (getD c a 0) e)) (included c a e)))
+includeTold c n a e = cond (clockLendable c n) (cond (leb n a) (entries-left NoPlace c) (entries-left (clockYesNo (takes (getD c a 0) e)) (included c a e))) (entries-left NotValid c)
 
 -- b's entries are lent beside, m of them in use
 abbrev pub mergeTold : List ℕ → ℕ → List ℕ → ℕ → EntriesLeft
-mergeTold c n b m = cond (ltb (length c) n) (entries-left NotValid c) (cond (ltb (length b) m) (entries-left NotValid c) (entries-left Done (joined (take n c) (take m b) ++ drop n c)))
+mergeTold c n b m = cond (clockLendable c n && clockLendable b m) (entries-left Done (joined (take n c) (take m b) ++ drop n c)) (entries-left NotValid c)
 
 abbrev pub coversTold : List ℕ → ℕ → List ℕ → ℕ → Answer
-coversTold c n b m = cond (ltb (length c) n) NotValid (cond (ltb (length b) m) NotValid (cond (eqb n m) (clockYesNo (coversAll (take n c) (take m b))) NotValid))
+coversTold c n b m = cond (clockLendable c n && clockLendable b m) (cond (eqb n m) (clockYesNo (coversAll (take n c) (take m b))) NotValid) NotValid
 
 abbrev pub isolateTold : List ℕ → ℕ → ℕ → EntriesLeft
-isolateTold c n a = cond (ltb (length c) n) (entries-left NotValid c) (cond (leb n a) (entries-left NoPlace c) (entries-left Done (isolated c a)))
+isolateTold c n a = cond (clockLendable c n) (cond (leb n a) (entries-left NoPlace c) (entries-left Done (isolated c a))) (entries-left NotValid c)
 
 abbrev pub opTold : List ℕ → ℕ → ℕ → ℕ → Answer
-opTold c n a counter = cond (ltb (length c) n) NotValid (cond (leb n a) NoPlace (clockYesNo (opCovers c a counter)))
+opTold c n a counter = cond (clockLendable c n) (cond (leb n a) NoPlace (clockYesNo (opCovers c a counter))) NotValid
 
 abbrev pub insertTold : List ℕ → ℕ → ℕ → EntriesLeft
-insertTold c n p = cond (ltb (length c) n) (entries-left NotValid c) (cond (ltb n p) (entries-left NoRoom c) (cond (leb (length c) n) (entries-left NoRoom c) (entries-left Done (inserted c n p))))
+insertTold c n p = cond (clockLendable c n) (cond (ltb n p) (entries-left NoRoom c) (cond (leb (length c) n) (entries-left NoRoom c) (entries-left Done (inserted c n p)))) (entries-left NotValid c)
 
 abbrev pub removeTold : List ℕ → ℕ → ℕ → EntriesLeft
-removeTold c n p = cond (ltb (length c) n) (entries-left NotValid c) (cond (leb n p) (entries-left NoPlace c) (entries-left Done (removed c n p)))
+removeTold c n p = cond (clockLendable c n) (cond (leb n p) (entries-left NoPlace c) (entries-left Done (removed c n p))) (entries-left NotValid c)
 
 -- of a range the two clocks are lent: b with n entries in use, and c with m
 abbrev pub seenAfter : Range → List ℕ → ℕ → ℕ → ℕ → Answer
@@ -87,7 +91,7 @@ seenAfter CurrentAt c m a counter = opTold c m a counter
 seenAfter Diff c m a counter = opTold c m a counter
 
 abbrev pub afterTold : Range → List ℕ → ℕ → List ℕ → ℕ → ℕ → ℕ → Answer
-afterTold kind b n c m a counter = cond (ltb (length b) n) NotValid (cond (ltb (length c) m) NotValid (seenAfter kind c m a counter))
+afterTold kind b n c m a counter = cond (clockLendable b n && clockLendable c m) (seenAfter kind c m a counter) NotValid
 
 abbrev pub seenBefore : Range → List ℕ → ℕ → ℕ → ℕ → Answer
 seenBefore Current b n a counter = No
@@ -95,4 +99,4 @@ seenBefore CurrentAt b n a counter = No
 seenBefore Diff b n a counter = opTold b n a counter
 
 abbrev pub beforeTold : Range → List ℕ → ℕ → List ℕ → ℕ → ℕ → ℕ → Answer
-beforeTold kind b n c m a counter = cond (ltb (length b) n) NotValid (cond (ltb (length c) m) NotValid (seenBefore kind b n a counter))
+beforeTold kind b n c m a counter = cond (clockLendable b n && clockLendable c m) (seenBefore kind b n a counter) NotValid

@@ -1,7 +1,8 @@
-// Clocks as they are lent: a slice of entries, and the count of those in use. Nothing is asked of either: a count above the slice, a place not below the count
-// and whatever else is refused get an answer of their own, and leave every entry as it was.
+// Clocks as they are lent: a slice of entries, and the count of those in use. Nothing is asked of either: more than 64 entries, a count above them, a place not
+// below the count and whatever else is refused get an answer of their own, and leave every entry as it was.
 ghost use mathlib.Core.Path.{_≡_};
-ghost use Rattle.clock_checked.specs.Told.{entries-left, clockNumber, numberGot, yesOf, getTold, includeTold, mergeTold, coversTold, isolateTold, opTold, insertTold, removeTold, afterTold, beforeTold};
+ghost use mathlib.Core.Bool.{_&&_};
+ghost use Rattle.clock_checked.specs.Told.{entries-left, clockLendable, clockNumber, numberGot, yesOf, getTold, includeTold, mergeTold, coversTold, isolateTold, opTold, insertTold, removeTold, afterTold, beforeTold};
 use clock::Entry;
 use clock::Range;
 
@@ -11,7 +12,7 @@ pub enum Answer {
     Done,
     Yes,
     No,
-    // a count above the entries lent, or clocks of different lengths given to covers
+    // more than 64 entries lent, a count above them, or clocks of different lengths given to covers
     NotValid,
     // a place not below the count
     NoPlace,
@@ -63,11 +64,31 @@ pub fn got_number(g: Got) -> u32
     }
 }
 
+// Whether a clock may be lent: at most 64 entries, and the count not above them.
+fn lendable(entries: &[u32], count: usize) -> bool
+    ensures { λ r. ⌜ r ≡ clockLendable (now (entries .entry)) count ⌝ }
+{
+    if 64 < entries.len() {
+        return false;
+    }
+    count <= entries.len()
+}
+
+// Whether both of two clocks may be lent.
+fn both_lendable(a: &[u32], n: usize, b: &[u32], m: usize) -> bool
+    ensures { λ r. ⌜ r ≡ (clockLendable (now (a .entry)) n && clockLendable (now (b .entry)) m) ⌝ }
+{
+    if !lendable(a, n) {
+        return false;
+    }
+    lendable(b, m)
+}
+
 // The entry at a place, nothing for a place not below the count.
 pub fn try_get(entries: &[u32], count: usize, a: usize) -> Got
     ensures { λ r. ⌜ r ≡ getTold (now (entries .entry)) count a ⌝ }
 {
-    if entries.len() < count {
+    if !lendable(entries, count) {
         return Got::NotValid;
     }
     Got::Entry(clock::get(&entries[..count], a))
@@ -77,7 +98,7 @@ pub fn try_get(entries: &[u32], count: usize, a: usize) -> Got
 pub fn try_include(entries: &mut [u32], count: usize, place: usize, entry: Entry) -> Answer
     ensures { λ r. ⌜ entries-left r (now (entries .exit)) ≡ includeTold (now (entries .entry)) count place entry ⌝ }
 {
-    if entries.len() < count {
+    if !lendable(entries, count) {
         return Answer::NotValid;
     }
     if count <= place {
@@ -94,10 +115,7 @@ pub fn try_include(entries: &mut [u32], count: usize, place: usize, entry: Entry
 pub fn try_merge(a: &mut [u32], n: usize, b: &[u32], m: usize) -> Answer
     ensures { λ r. ⌜ entries-left r (now (a .exit)) ≡ mergeTold (now (a .entry)) n (now (b .entry)) m ⌝ }
 {
-    if a.len() < n {
-        return Answer::NotValid;
-    }
-    if b.len() < m {
+    if !both_lendable(a, n, b, m) {
         return Answer::NotValid;
     }
     clock::merge(&mut a[..n], &b[..m]);
@@ -108,10 +126,7 @@ pub fn try_merge(a: &mut [u32], n: usize, b: &[u32], m: usize) -> Answer
 pub fn try_covers(a: &[u32], n: usize, b: &[u32], m: usize) -> Answer
     ensures { λ r. ⌜ r ≡ coversTold (now (a .entry)) n (now (b .entry)) m ⌝ }
 {
-    if a.len() < n {
-        return Answer::NotValid;
-    }
-    if b.len() < m {
+    if !both_lendable(a, n, b, m) {
         return Answer::NotValid;
     }
     if n != m {
@@ -128,7 +143,7 @@ pub fn try_covers(a: &[u32], n: usize, b: &[u32], m: usize) -> Answer
 pub fn try_isolate(entries: &mut [u32], count: usize, a: usize) -> Answer
     ensures { λ r. ⌜ entries-left r (now (entries .exit)) ≡ isolateTold (now (entries .entry)) count a ⌝ }
 {
-    if entries.len() < count {
+    if !lendable(entries, count) {
         return Answer::NotValid;
     }
     if count <= a {
@@ -142,7 +157,7 @@ pub fn try_isolate(entries: &mut [u32], count: usize, a: usize) -> Answer
 pub fn try_op_covers(entries: &[u32], count: usize, actor: usize, counter: u64) -> Answer
     ensures { λ r. ⌜ r ≡ opTold (now (entries .entry)) count actor counter ⌝ }
 {
-    if entries.len() < count {
+    if !lendable(entries, count) {
         return Answer::NotValid;
     }
     if count <= actor {
@@ -159,7 +174,7 @@ pub fn try_op_covers(entries: &[u32], count: usize, actor: usize, counter: u64) 
 pub fn try_rewrite_with_new_actor(entries: &mut [u32], count: usize, p: usize) -> Answer
     ensures { λ r. ⌜ entries-left r (now (entries .exit)) ≡ insertTold (now (entries .entry)) count p ⌝ }
 {
-    if entries.len() < count {
+    if !lendable(entries, count) {
         return Answer::NotValid;
     }
     if count < p {
@@ -176,7 +191,7 @@ pub fn try_rewrite_with_new_actor(entries: &mut [u32], count: usize, p: usize) -
 pub fn try_remove_actor(entries: &mut [u32], count: usize, p: usize) -> Answer
     ensures { λ r. ⌜ entries-left r (now (entries .exit)) ≡ removeTold (now (entries .entry)) count p ⌝ }
 {
-    if entries.len() < count {
+    if !lendable(entries, count) {
         return Answer::NotValid;
     }
     if count <= p {
@@ -186,7 +201,7 @@ pub fn try_remove_actor(entries: &mut [u32], count: usize, p: usize) -> Answer
     Answer::Done
 }
 
-// Is the op visible at the range's end? Both clocks are looked at for their counts, and the place only where a clock is asked.
+// Is the op visible at the range's end? Both clocks are checked, and the place only where a clock is asked.
 pub fn try_visible_after(
     kind: Range,
     before: &[u32],
@@ -198,10 +213,7 @@ pub fn try_visible_after(
 ) -> Answer
     ensures { λ r. ⌜ r ≡ afterTold kind (now (before .entry)) n (now (after .entry)) m actor counter ⌝ }
 {
-    if before.len() < n {
-        return Answer::NotValid;
-    }
-    if after.len() < m {
+    if !both_lendable(before, n, after, m) {
         return Answer::NotValid;
     }
     match kind {
@@ -223,10 +235,7 @@ pub fn try_visible_before(
 ) -> Answer
     ensures { λ r. ⌜ r ≡ beforeTold kind (now (before .entry)) n (now (after .entry)) m actor counter ⌝ }
 {
-    if before.len() < n {
-        return Answer::NotValid;
-    }
-    if after.len() < m {
+    if !both_lendable(before, n, after, m) {
         return Answer::NotValid;
     }
     match kind {

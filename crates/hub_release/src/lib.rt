@@ -1,6 +1,7 @@
-// Releasing the ready ones of a queue, from C: against a table of hashes, or against a whole graph. The queue's tables are `qhashes` and so on, the answer's `thashes` and so on.
-// `release_checked` checks the graph and releases against its hashes; `release_told` does so with the first e edges of two larger tables;
-// `cg_release` unpacks the edge records into two such tables and calls `release_told`. No table of the graph changes.
+// Releasing the ready ones of a queue, from C, against a graph. The queue's tables are `qhashes` and so on, the answer's `thashes` and so on.
+// `release_known` releases against the first hashes of a table and is called with a checked graph's alone; `release_checked` checks the graph first;
+// `release_told` does so with the first e edges of two larger tables; `cg_release` unpacks the edge records into two such tables and calls `release_told`.
+// No table of the graph changes.
 ghost use mathlib.Core.Path.{_≡_};
 ghost use Rattle.paper.specs.Numbers.{number, not-valid};
 ghost use Rattle.tables.specs.Tables.{tables};
@@ -33,8 +34,7 @@ fn tell_count(a: Released, told: &mut [u64])
 }
 
 // Releases the ready ones against the first `known` of the hashes, and tells how many: 1, 15 or 0.
-#[no_mangle]
-pub extern "C" fn cg_queue_release(
+fn release_known(
     hashes: &[u8],
     known: usize,
     qhashes: &mut [u8],
@@ -63,7 +63,7 @@ pub extern "C" fn cg_queue_release(
     released(a)
 }
 
-// The same against the changes of a graph that is checked first.
+// Releases the ready ones against the changes of a graph that is checked first.
 fn release_checked(
     hashes: &[u8],
     nodes: &[u32],
@@ -86,7 +86,7 @@ fn release_checked(
         return 1;
     }
     let known = counts[0] as usize;
-    cg_queue_release(
+    release_known(
         hashes,
         known,
         qhashes,
@@ -143,6 +143,7 @@ fn release_told(
     )
 }
 
+// Releases the ready ones against the graph, and tells how many: 1 where the graph or the queue is not valid, 15 where the answer tables cannot hold them all whole, or 0.
 #[no_mangle]
 pub extern "C" fn cg_release(
     hashes: &[u8],

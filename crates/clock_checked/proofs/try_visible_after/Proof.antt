@@ -1,36 +1,34 @@
--- `clock::try_visible_after` meets its contract: the two counts, and then kind by kind.
+-- `clock_checked::try_visible_after` meets its contract: the two clocks, and then kind by kind.
 -- Assumes nothing.
-use borrow.Author.Tests.{lt-ltb, le-ltb}
+use mathlib.Core.Path.{sym, _∙_}
+use borrow.Author.Tests.{not-true, not-false}
 use borrow.Author.Needs.{needs}
 use Rattle.clock_checked.proofs.try_visible_after.Statement.{statement}
 use Rattle.clock_checked.proofs.try_visible_after.Tie as tie
 
 returns : tie.Need-returns
-returns c = rw (lt-ltb _ _ (c .if1 .taken))
+returns c = rw (sym (c .before .both-lendable .ensures) ∙ not-true _ (c .if1 .taken))
 
 returns-2 : tie.Need-returns-2
-returns-2 c = rw (le-ltb _ _ (c .before .if1 .left), lt-ltb _ _ (c .if2 .taken))
+returns-2 c = rw (sym (c .before .before .before .both-lendable .ensures) ∙ not-false _ (c .before .before .if1 .left), c .enum-told .given .1)
 
 returns-3 : tie.Need-returns-3
-returns-3 c = rw (le-ltb _ _ (c .before .before .before .if1 .left), le-ltb _ _ (c .before .before .if2 .left), c .enum-told .given .1)
+returns-3 c = rw (sym (c .before .before .before .before .both-lendable .ensures) ∙ not-false _ (c .before .before .before .if1 .left), c .before .enum-told2 .given .1) (c .try-op-covers .ensures)
 
 returns-4 : tie.Need-returns-4
-returns-4 c = rw (le-ltb _ _ (c .before .before .before .before .if1 .left), le-ltb _ _ (c .before .before .before .if2 .left), c .before .enum-told2 .given .1) (c .try-op-covers .ensures)
-
-returns-5 : tie.Need-returns-5
-returns-5 c = rw (le-ltb _ _ (c .before .before .before .before .if1 .left), le-ltb _ _ (c .before .before .before .if2 .left), c .before .enum-told3 .given .1) (c .try-op-covers2 .ensures)
+returns-4 c = rw (sym (c .before .before .before .before .both-lendable .ensures) ∙ not-false _ (c .before .before .before .if1 .left), c .before .enum-told3 .given .1) (c .try-op-covers2 .ensures)
 
 pub try-visible-after-spec : {M : Type 1} → statement M
 try-visible-after-spec =
     tie.close
     (tie.spec
+    (λ c κs. search needs)
     returns
+    (λ c. search needs)
+    (λ c. search needs)
+    (λ c κs. search needs)
+    (λ c. search needs)
+    (λ c κs. search needs)
     returns-2
-    (λ c. search needs)
-    (λ c. search needs)
-    (λ c κs. search needs)
-    (λ c. search needs)
-    (λ c κs. search needs)
     returns-3
-    returns-4
-    returns-5)
+    returns-4)

@@ -30,7 +30,7 @@ cast-known : tie.Need-cast-known
 cast-known c = omega (arith, c .shared-slice-known7 .given 0)
 
 returns-2 : tie.Need-returns-2
-returns-2 c = freed-valid _ _ _ _ (right (c .before .before .before .before .before .before .before .before .before .before .before .before .before .before .before .before .before .before .before .before .before .before .before .before .before .before)) (c .before .before .before .before .before .before .before .before .before .before .before .before .before .before .before .before .cg-queue-release .ensures)
+returns-2 c = freed-valid _ _ _ _ (right (c .before .before .before .before .before .before .before .before .before .before .before .before .before .before .before .before .before .before .before .before .before .before .before .before .before .before)) (c .before .before .before .before .before .before .before .before .before .before .before .before .before .before .before .before .release-known .ensures)
 
 pub release-checked-spec : {M : Type 1} → statement M
 release-checked-spec =
