@@ -16,7 +16,7 @@ import textwrap
 os.chdir(os.path.join(os.path.dirname(os.path.abspath(__file__)), ".."))
 
 # the crates that state the demands: their words are looked at too
-DEMANDS = {"demands", "demand_three", "exactly_once", "one_outcome", "queue_books"}
+DEMANDS = {"agreement", "demands", "demand_three", "exactly_once", "one_outcome", "queue_books"}
 
 NAME = r"[^\s(){}\[\];,.:λ⌜⌝]+"
 HEAD = re.compile(r"^( *)(?:unfoldable |abbrev )?(?:pub )?(?:(record|data) )?(" + NAME + r")(?: [({][^:]*)* *(?:\{ℓ\} *)?: ")

@@ -11,7 +11,7 @@ use Rattle.paper.specs.Numbers.{number, done}
 use Rattle.paper.specs.Text.{flat}
 use Rattle.paper.specs.Graph.{Reach, Held, hist, nodes}
 use Rattle.tables.specs.Tables.{Tables, graph, actors}
-use Rattle.clock_checked.specs.Told.{entries-left, clockNumber, mergeTold}
+use Rattle.clock_checked.specs.Told.{entries-left, clockNumber, mergeTold, coversTold}
 use Rattle.clock_checked.specs.declared.Answer.{Answer}
 use Rattle.clock_struct.specs.Clocks.{ClockMerged, ClockCovered}
 use Rattle.hub_list_clock.specs.Operations.{ClockOf}
@@ -81,6 +81,15 @@ pub record MissingShown (t : Tables) (out out′ : List ℕ) (bytes : ℕ) : Typ
 abbrev pub ClocksLargest : Tables → Type 0
 ClocksLargest t = (bytes out told out′ told′ : List ℕ) → ClockOf bytes out told (number done) out′ told′ t → ClockLeft t bytes out told out′ told′
 
+-- clocks for two lists, of at most 64 entries each, as a struct has, are merged and compared with 0
+abbrev pub MergingAnswers : Tables → Type 0
+MergingAnswers t =
+    (l m a b : List ℕ) (n k : ℕ) → AnsweredClock t l a n → AnsweredClock t m b k → length a ≤ 64 → length b ≤ 64 → clockNumber (mergeTold a n b k .answer) ≡ number done
+
+abbrev pub CoveringAnswers : Tables → Type 0
+CoveringAnswers t =
+    (l m a b : List ℕ) (n k : ℕ) → AnsweredClock t l a n → AnsweredClock t m b k → length a ≤ 64 → length b ≤ 64 → clockNumber (coversTold a n b k) ≡ number done
+
 -- `cg_clock_merge` makes of the clocks for two lists, a with n in use and b with k, the clock for the two joined, their bytes one after the other: a′ with n′ in use is
 -- left, and has the count and the entries in use of the clock c that is answered for both
 abbrev pub MergeJoins : Tables → Type 0
@@ -112,6 +121,8 @@ pub record DemandThree (t : Tables) : Type 0 where
   -- the history that is spoken of is the paper's
   pub history : (bytes : List ℕ) (k : ℕ) → (in-history-of t bytes k ≡ true) ↔ Reach (graph t) (nodes (graph t) (hashes-of bytes)) k
   pub largest : ClocksLargest t
+  pub merges : MergingAnswers t
+  pub compares : CoveringAnswers t
   pub joining : MergeJoins t
   pub joining-slices : SlicesJoin t
   pub covering : CoversContains t

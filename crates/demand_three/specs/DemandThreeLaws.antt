@@ -2,15 +2,15 @@
 -- Assumes nothing.
 use mathlib.Core.Path.{_≡_, refl, sym, ap, ap₂, subst, _∙_}
 use mathlib.Core.Logic.{inl, inr, ⊎-elim, _↔_}
-use mathlib.Core.Bool.{Bool, true, false, cond, false≢true}
+use mathlib.Core.Bool.{Bool, true, false, cond, _&&_, false≢true}
 use mathlib.Core.List.{List, [], _∷_, _++_, map, map-append}
 use Prim.Native.Nat.{ℕ, zero, suc, _+_, _*_, _/_, _%_, _≤_, _<_, max}
 use native.Mathlib.Omega.{arith}
 use native.Mathlib.Decide.{ℕ-discrete}
 use lib.Dec.{eqb, ltb, leb}
-use lib.ListN.{length, getD, take, drop, length-append, length-drop, List·getD-append, List·getD-eq-default}
+use lib.ListN.{length, getD, take, drop, length-append, length-take, length-drop, List·getD-append, List·getD-eq-default}
 use lib.Seq.{take-append-le, drop-append-le, drop-append-add, take-append-seam, drop-append-seam, take-at, getD-set-same}
-use borrow.Author.Tests.{leb-true, leb-false, eqb-true, eq-eqb, ne-eqb}
+use borrow.Author.Tests.{leb-true, leb-false, le-leb, eqb-true, eq-eqb, ne-eqb}
 use Rattle.list_laws.specs.Cases.{below-or-not}
 use Rattle.paper.specs.Lists.{each-below, hashAt, hashes-from, hashes-of}
 use Rattle.paper.specs.Numbers.{number, done}
@@ -26,7 +26,7 @@ use Rattle.tables.specs.Valid.{Lengths, Valid}
 use Rattle.tables.specs.DepsLaws.{valid-graph}
 use Rattle.clock.specs.Clock.{entryOf, joined, coversAll}
 use Rattle.clock.specs.ClockLaws.{length-joined, getD-joined, covers-paper}
-use Rattle.clock_checked.specs.Told.{EntriesLeft, entries-left, clockNumber, yesOf, clockYesNo, mergeTold, coversTold}
+use Rattle.clock_checked.specs.Told.{EntriesLeft, entries-left, clockLendable, clockNumber, yesOf, clockYesNo, mergeTold, coversTold}
 use Rattle.clock_checked.specs.declared.Answer.{Answer}
 use Rattle.clock_checked.specs.declared.Answer.the-variants.{Done as Merged, NotValid}
 use Rattle.clock_struct.specs.Clocks.{StructDone, StructAsked}
@@ -46,7 +46,7 @@ use Rattle.hub_list_clock.specs.Operations.{ClockOf}
 use Rattle.hub_missing.specs.Operations.{MissingFrom}
 use Rattle.demands.specs.Operations.{Operation, open-for, Promised, Runs}
 use Rattle.demands.specs.Demands.{demand-3}
-use Rattle.demand_three.specs.DemandThree.{in-history-of, hashes-outside, LargestIn, AnsweredClock, ToldChained, ClocksLargest, MergeJoins, SlicesJoin, CoversContains, MissingOutside, MissingAll, DemandThree}
+use Rattle.demand_three.specs.DemandThree.{in-history-of, hashes-outside, LargestIn, AnsweredClock, ToldChained, ClocksLargest, MergingAnswers, CoveringAnswers, MergeJoins, SlicesJoin, CoversContains, MissingOutside, MissingAll, DemandThree}
 
 -- ---- the hashes of bytes that stand one after the other
 
@@ -136,14 +136,14 @@ Leaves t x = clockNumber (t .answer) ≡ number done → t .entries ≡ x
 abbrev Comes : Answer → Answer → Type 0
 Comes r x = clockNumber r ≡ number done → r ≡ x
 
--- past a refusal the rest decides
-leaves-past : (b : Bool) (c x : List ℕ) (t : EntriesLeft) → Leaves t x → Leaves (cond b (entries-left NotValid c) t) x
-leaves-past true c x t k = λ z. absurd (omega arith)
-leaves-past false c x t k = k
+-- behind a test of what is lent the rest decides
+leaves-where : (b : Bool) (c x : List ℕ) (t : EntriesLeft) → Leaves t x → Leaves (cond b t (entries-left NotValid c)) x
+leaves-where true c x t k = k
+leaves-where false c x t k = λ z. absurd (omega arith)
 
-comes-past : (b : Bool) (x r : Answer) → Comes r x → Comes (cond b NotValid r) x
-comes-past true x r k = λ z. absurd (omega arith)
-comes-past false x r k = k
+comes-where : (b : Bool) (x r : Answer) → Comes r x → Comes (cond b r NotValid) x
+comes-where true x r k = k
+comes-where false x r k = λ z. absurd (omega arith)
 
 leaves-these : (r : Answer) (x : List ℕ) → Leaves (entries-left r x) x
 leaves-these r x = λ z. refl
@@ -151,11 +151,11 @@ leaves-these r x = λ z. refl
 module _ (c : List ℕ) (n : ℕ) (b : List ℕ) (m : ℕ) where
   -- the entries in use are joined, and those past them stay
   pub merge-done : clockNumber (mergeTold c n b m .answer) ≡ number done → mergeTold c n b m .entries ≡ joined (take n c) (take m b) ++ drop n c
-  merge-done = let x = joined (take n c) (take m b) ++ drop n c in leaves-past (ltb (length c) n) c x _ (leaves-past (ltb (length b) m) c x _ (leaves-these Merged x))
+  merge-done = let x = joined (take n c) (take m b) ++ drop n c in leaves-where (clockLendable c n && clockLendable b m) c x _ (leaves-these Merged x)
 
   -- yes or no by the entries in use
   pub covers-done : clockNumber (coversTold c n b m) ≡ number done → coversTold c n b m ≡ clockYesNo (coversAll (take n c) (take m b))
-  covers-done = let x = clockYesNo (coversAll (take n c) (take m b)) in comes-past (ltb (length c) n) x _ (comes-past (ltb (length b) m) x _ (same-count x (eqb n m)))
+  covers-done = let x = clockYesNo (coversAll (take n c) (take m b)) in comes-where (clockLendable c n && clockLendable b m) x _ (same-count x (eqb n m))
     where
       same-count : (x : Answer) (e : Bool) → Comes (cond e x NotValid) x
       same-count x true = λ z. refl
@@ -236,6 +236,26 @@ module _ (t : Tables) (v : Valid t) where
     answered-entries : take n c ≡ whole-clock t bytes
     answered-entries =
         subst (λ (i : ℕ). take i c ≡ whole-clock t bytes) (clock-long t bytes ∙ sym answered-count) (start-first (whole-clock t bytes) (a .out) (a .told) c (a .told′) (answered-at-start .1))
+
+  -- such clocks may be lent where they have at most 64 entries
+  answered-lendable : {bytes c : List ℕ} {n : ℕ} → AnsweredClock t bytes c n → length c ≤ 64 → clockLendable c n ≡ true
+  answered-lendable {bytes} {c} {n} a few =
+      let w : length (take n c) ≡ n = ap length (answered-entries a) ∙ clock-long t bytes ∙ sym (answered-count a) in
+      let e = length-take n c in
+      rw (le-leb (length c) 64 few, le-leb n (length c) (omega arith))
+
+  -- so merging and covering of two of them answer 0
+  pub merging-answers : MergingAnswers t
+  merging-answers l m a b n k x y p q =
+      ap (λ (both : Bool). clockNumber (cond both (entries-left Merged (joined (take n a) (take k b) ++ drop n a)) (entries-left NotValid a) .answer)) (rw (answered-lendable x p, answered-lendable y q))
+
+  pub covering-answers : CoveringAnswers t
+  covering-answers l m a b n k x y p q =
+      rw (answered-lendable x p, answered-lendable y q, eq-eqb n k (answered-count x ∙ sym (answered-count y))) (yes-no-done (coversAll (take n a) (take k b)))
+    where
+      yes-no-done : (b : Bool) → clockNumber (clockYesNo b) ≡ number done
+      yes-no-done true = refl
+      yes-no-done false = refl
 
   -- ---- (b) joining
 
@@ -348,6 +368,8 @@ module _ (t : Tables) (v : Valid t) where
   demand-three = record {
     history = history-reach;
     largest = clocks-largest;
+    merges = merging-answers;
+    compares = covering-answers;
     joining = merge-joins;
     joining-slices = slices-join;
     covering = covers-contains;

@@ -27,7 +27,7 @@ use Rattle.paper.specs.Books.{Books, fresh, batch-at, with-batch, after-release
 use Rattle.paper.proofs.Books.{batch-same, batch-other, balanced-after, balanced-fresh}
 use Rattle.queue_books.specs.View.{recordsOf}
 use Rattle.queue_books.specs.Stays.{waitingChange}
-use Rattle.queue_books.specs.Books.{Holding, recount, fewer, open-done, push-done, hand-done, all-of, fewer-ready, release-done, release-gives, release-in-order, drop-done}
+use Rattle.queue_books.specs.Books.{Holding, recount, fewer, open-done, push-done, hand-done, all-of, fewer-ready, release-done, release-fills, release-in-order, drop-done}
 use Rattle.hub_batch.specs.Operations.{QueueOpened, BatchPushed}
 use Rattle.hub_queue.specs.Operations.{HandedOver, BranchRemoved}
 use Rattle.hub_release.specs.Operations.{FreedBy, answerOf, releasedCountIn}
@@ -132,7 +132,7 @@ module _ (t : Tables) (a a′ : AnswerTables) (q q′ : Store) {r : ℕ} {l : Li
   release-step = release-done (t .hashes) (changes t) was-held (all-given .1) given-out
 
   release-got : recordsOf (a′ .hashes) (a′ .numbers) (a′ .deps) (fewer q q′) ≡ changes-at (of-list l) (order (knownIn (t .hashes) (changes t)) (of-list l))
-  release-got = release-gives (t .hashes) (changes t) was-held (all-given .1) given-out
+  release-got = release-fills (t .hashes) (changes t) was-held (all-given .1) given-out
 
   -- C gets them in an order that adding takes: what one depends on is known, or is the hash of one that stands before it
   pub release-ordered : (j : ℕ) → j < fewer q q′ → (d : List ℕ) → names d (recordAt (a′ .hashes) (a′ .numbers) (a′ .deps) j .deps) ≡ true

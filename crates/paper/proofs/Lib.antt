@@ -25,3 +25,5 @@ pub mod SessionSamples
 pub mod Scans
 pub mod Naming
 pub mod Loading
+pub mod ValidTests
+pub mod OrderSamples

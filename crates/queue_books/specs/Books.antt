@@ -168,9 +168,9 @@ module _ (gs : List ℕ) (n : ℕ) {q q′ : Store} {th tn td th′ tn′ td′ 
       omega (arith, tally-whole (waiting (q .count)), order-rest known (tabled q) (λ i. true), count-true (order known (tabled q)), count-true (rest known (tabled q)))
 
   -- the answer tables hold, in order, what the paper's call adds to the released ones
-  pub release-gives : recordsOf th′ tn′ td′ (fewer q q′) ≡ changes-at (of-list l) (order (knownIn gs n) (of-list l))
+  pub release-fills : recordsOf th′ tn′ td′ (fewer q q′) ≡ changes-at (of-list l) (order (knownIn gs n) (of-list l))
   unfolding readyOf
-  release-gives =
+  release-fills =
       ap (recordsOf th′ tn′ td′) fewer-ready
       ∙ (given-list gs n (s .valid) (roomy-rooms th tn td (length (readyOf gs n (q .hashes) (q .numbers) (q .deps) (q .count))) roomy) (g .answer)
       ∙ listed-alike (order (knownIn gs n)) q (low-order (knownIn gs n) (tabled q)) (λ al. order-alike (tabled q) (of-list (waitingIn q)) al (knownIn gs n)) (s .waits))

@@ -1,0 +1,1 @@
+// No code: the definitions of the code's crates agree with the paper's conditions.
