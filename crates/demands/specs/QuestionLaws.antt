@@ -4,13 +4,11 @@ use mathlib.Core.Path.{_≡_, refl, _∙_}
 use mathlib.Core.Bool.{Bool, true, false, cond, _&&_}
 use mathlib.Core.List.{List, [], _∷_, _++_}
 use Prim.Native.Nat.{ℕ, _*_}
-use native.Mathlib.Omega.{arith}
 use lib.Dec.{leb, ltb, eqb}
 use lib.ListN.{length, drop}
 use Rattle.paper.specs.Numbers.{number, done, not-valid}
 use Rattle.paper.specs.Graph.{Graph, change-at, owner}
 use Rattle.tables.specs.Tables.{Tables, graph}
-use Rattle.tables.specs.Valid.{Lengths, Valid}
 use Rattle.answer_buffer.specs.Answers.{listAnswer, filled, whole-list, one-hash, node-hash, node-hash-filled}
 use Rattle.answer_buffer.specs.declared.Listed.{Listed}
 use Rattle.answer_buffer.specs.declared.Listed.the-variants.{Done, Malformed, NotFound, NoOwner, Short}
@@ -35,10 +33,8 @@ use Rattle.hub_counts.specs.Operations.{SeqForActor, MaxOpForActor, MaxOp}
 use Rattle.hub_current_heads.specs.Operations.{HeadsAreCurrent}
 use Rattle.hub_chained.specs.Operations.{IsChained}
 use Rattle.hub_answer.specs.Asks.{Reply, gives, refuses, replyNumber, toldBy, ofListed}
-use Rattle.demands.specs.Operations.{Operation, open-for, Promised, Runs}
 use Rattle.demands.specs.Refusals.{InTable, NotDone, DemandOne}
 use Rattle.demands.specs.RefusalLaws.{in-table, by-answer, either-way}
-use Rattle.demands.specs.Demands.{demand-3}
 use Rattle.demands.specs.Questions.{Question, clock-of, clock-at, missing-from, owner-of, heads, head-indexes, index-to-hash, hash-for-actor-seq, deps-for-hash, actor-ids, remove-ancestors, answerOn, bufferOn, Answers, NumberQuestion, hash-to-index, has-change, seq-of-actor, max-op-of-actor, max-op-of-all, how-many, how-many-actors, are-heads, chained-asked, replyOf, numberAsked, AnswersNumber}
 
 -- a refusal's number is not that of done
@@ -181,29 +177,3 @@ module _ (told : List ℕ) (r : ℕ) (told′ : List ℕ) (t : Tables) where
 
   pub is-chained : IsChained told r told′ t → AnswersNumber chained-asked told r told′ t
   is-chained p = p
-
--- ---- demand 3 as it is asked from C
-
--- a list that was answered stands in the buffer, and what lay past it stays
-list-answered : (l out : List ℕ) → number done ≡ replyNumber (ofListed (listAnswer l (length out))) → filled l out ≡ l ++ drop (length l) out
-unfolding listAnswer filled
-list-answered l out = go (leb (length l) (length out))
-  where
-    go : (b : Bool) → number done ≡ replyNumber (ofListed (cond b (Done (length l)) Short)) → cond b (l ++ drop (length l) out) out ≡ l ++ drop (length l) out
-    go true e = refl
-    go false e = absurd (omega arith)
-
--- behind a test of what was lent
-tested-answered : (b : Bool) (l out : List ℕ) → number done ≡ replyNumber (ofListed (cond b (listAnswer l (length out)) Malformed)) → cond b (filled l out) out ≡ l ++ drop (length l) out
-tested-answered true l out e = list-answered l out e
-tested-answered false l out e = absurd (omega arith)
-
--- where the clock of a list is answered, the buffer holds the paper's clock, an entry for each actor
-pub clock-answered : (list out told out′ told′ : List ℕ) (t : Tables) → Valid t → ClockOf list out told (number done) out′ told′ t → out′ ≡ whole-clock t list ++ drop (length (whole-clock t list)) out
-unfolding clock-told clock-filled
-clock-answered list out told out′ told′ t v p = let s = p .met v in s .filled ∙ tested-answered (whole-list list) (whole-clock t list) out (s .number)
-
--- so from opened tables on, after any operations
-pub demand-3-asked : (a : ℕ) (os : List Operation) (t t₀ t′ : Tables) → Lengths t → Promised (open-for a) t (number done) t₀ → Runs t₀ os t′ → (list out told out′ told′ : List ℕ) → ClockOf list out told (number done) out′ told′ t′
-    → out′ ≡ whole-clock t′ list ++ drop (length (whole-clock t′ list)) out
-demand-3-asked a os t t₀ t′ l p runs list out told out′ told′ = clock-answered list out told out′ told′ t′ (demand-3 a os t t₀ t′ l p runs .valid)
