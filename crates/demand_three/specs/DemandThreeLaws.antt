@@ -246,8 +246,7 @@ module _ (t : Tables) (v : Valid t) where
 
   -- so merging and covering of two of them answer 0
   pub merging-answers : MergingAnswers t
-  merging-answers l m a b n k x y p q =
-      ap (λ (both : Bool). clockNumber (cond both (entries-left Merged (joined (take n a) (take k b) ++ drop n a)) (entries-left NotValid a) .answer)) (rw (answered-lendable x p, answered-lendable y q))
+  merging-answers l m a b n k x y p q = rw (answered-lendable x p, answered-lendable y q)
 
   pub covering-answers : CoveringAnswers t
   covering-answers l m a b n k x y p q =
