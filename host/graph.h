@@ -103,4 +103,19 @@ static inline uint32_t add(Graph *g, uint32_t n, uint64_t actor, uint64_t sequen
   return add_bytes(g, hash, 32, actor, sequence, max_op, op_count, dependencies, 32 * on_len);
 }
 
+/* Fills the tables, which have room for 64 actors, with a line of n changes, each on the one before: those of the numbers 1 to n, the actors in turn. No clock is cached. */
+static inline void line_of(Graph *g, uint32_t n) {
+  for (uint32_t k = 0; k < n; k++) {
+    hash_of(k + 1, g->hashes + 32 * k);
+    uint32_t node[6] = {k % 64, k / 64 + 1, k + 1, 1, k > 0 ? k : 0, k + 1 == n};
+    memcpy(g->nodes + 6 * k, node, sizeof node);
+    if (k > 0) {
+      g->edges[k - 1] = (Edge){k - 1, 0};
+    }
+  }
+  g->counts[0] = n;
+  g->counts[1] = n - 1;
+  g->counts[2] = 64;
+}
+
 #endif

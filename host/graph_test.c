@@ -43,7 +43,8 @@ static void refusals(void) {
   expect(add(&g, 5, 0, UINT64_MAX, 6, 1, ones, 1) == CG_WRONG_SEQUENCE, "the largest sequence");
   expect(add(&g, 5, 0, 3, 4294967296u + 0ull, 1, ones, 1) == CG_WRONG_OPS, "a max op above 32 bits");
   expect(add(&g, 5, 0, 3, 6, 7, ones, 1) == CG_WRONG_OPS, "an op count above the max op");
-  expect(add(&g, 5, 0, 3, 6, 1, many, 33) == CG_MANY_DEPENDENCIES, "33 dependencies");
+  expect(add(&g, 5, 0, 3, 6, 1, many, CG_DEPENDENCIES + 1) == CG_MANY_DEPENDENCIES, "33 dependencies");
+  expect(add(&g, 5, 0, 3, 6, 1, many, CG_DEPENDENCIES) == CG_NO_EDGE_ROOM, "32 dependencies, and no room for them");
   expect(add(&g, 5, 0, 3, 6, 1, three, 3) == CG_NO_EDGE_ROOM, "more edges than room");
   unchanged(&g, before, size, "a refused change leaves every byte");
   free(before);
@@ -146,6 +147,21 @@ static void lengths(void) {
   expect(add(&none, 1, 0, 1, 1, 1, NULL, 0) == CG_NO_ACTOR, "room 0 has no actor");
 }
 
+/* Tables of the room that the header names are valid, and not with one more of anything; and the last change that they have room for. */
+static void rooms(void) {
+  const char *what[4] = {"tables of the hub's room", "room for a change more", "room for an edge more", "room for an actor more"};
+  for (size_t one = 0; one < 4; one++) {
+    Graph g = graph_of(CG_HUB_CHANGES + (one == 1), CG_HUB_EDGES + (one == 2), CG_HUB_ACTORS + (one == 3), 0);
+    expect(open_graph(&g, CG_HUB_ACTORS) == (one == 0 ? CG_DONE : CG_NOT_VALID), what[one]);
+  }
+  Graph g = graph_of(CG_HUB_CHANGES, CG_HUB_EDGES, CG_HUB_ACTORS, 0);
+  uint32_t last = CG_HUB_CHANGES - 1;
+  line_of(&g, last);
+  expect(add(&g, last + 1, last % 64, last / 64 + 1, 1, 1, &last, 1) == CG_DONE, "the 4,096th change");
+  expect(add(&g, last + 2, 0, 65, 1, 1, &last, 1) == CG_NO_NODE_ROOM, "the 4,097th change");
+  expect(CG_HUB_BYTES == 1970196, "the hub's tables have the bytes of docs/MEMORY.md");
+}
+
 /* A line of 17 changes: node 15 gets a cached clock when added, and no other does. */
 static void caching(void) {
   Graph g = graph_of(20, 40, 2, 0);
@@ -184,6 +200,7 @@ int main(void) {
   actors();
   damaged();
   lengths();
+  rooms();
   caching();
   clocks();
   return summed_up("graph and clocks");

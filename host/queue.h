@@ -23,7 +23,7 @@ static inline Queue queue_long(size_t hashes, size_t numbers, size_t deps, size_
   return q;
 }
 
-static inline Queue queue_of(size_t room, int fill) { return queue_long(32 * room, 5 * room, 1024 * room, 1, fill); }
+static inline Queue queue_of(size_t room, int fill) { return queue_long(CG_HASH * room, CG_NUMBERS * room, CG_DEPS * room, 1, fill); }
 
 static inline void *queue_table(const Queue *q, int table) {
   void *tables[4] = {q->hashes, q->numbers, q->deps, q->count};

@@ -30,11 +30,11 @@ static Graph graph_with(uint32_t changes) {
 /* ---- opening and pushing */
 
 static void opening(void) {
-  for (size_t room = 0; room <= 257; room += room == 0 ? 1 : room == 1 ? 255 : 1) {
+  for (size_t room = 0; room <= CG_WAITING + 1; room += room == 0 ? 1 : room == 1 ? CG_WAITING - 1 : 1) {
     Queue q = queue_of(room, 0xEE);
     uint8_t *before = queue_copy(&q);
     uint32_t r = cg_queue_open(QUEUE(&q));
-    if (room > 256) {
+    if (room > CG_WAITING) {
       expect(r == CG_NOT_VALID && queue_same(&q, before), "more room than 256");
     } else {
       expect(r == CG_DONE && q.count[0] == 0, "open");
@@ -73,9 +73,9 @@ static void pushing(void) {
   expect(queue_same(&q, before), "no room leaves every byte");
   queue_free(&q);
 
-  Queue most = queue_of(256, 0);
+  Queue most = queue_of(CG_WAITING, 0);
   expect(cg_queue_open(QUEUE(&most)) == CG_DONE, "open the largest");
-  for (uint32_t k = 0; k < 256; k++) {
+  for (uint32_t k = 0; k < CG_WAITING; k++) {
     expect(push(&most, k + 1, 1, k, NULL, 0) == CG_DONE, "256 wait");
   }
   before = queue_copy(&most);
@@ -347,7 +347,7 @@ static void lengths(void) {
     all_refuse(&q, 0, "a table with a record more");
     queue_free(&q);
   }
-  Queue most = queue_of(257, 0);
+  Queue most = queue_of(CG_WAITING + 1, 0);
   all_refuse(&most, 0, "more room than 256");
   queue_free(&most);
 }

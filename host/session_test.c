@@ -1,6 +1,6 @@
 /* Tests cg_session from C: the worked example, answer buffers of the exact length, one short and longer, an empty input, bad lines, lines of
- * 2,400 and 2,401 bytes, and more changes than there is room. Input and answer end at a page that may not be touched. Prints what failed; exit status 1
- * where anything did. */
+ * 2,400 and 2,401 bytes, and more changes, dependencies and actors than there is room. Input and answer end at a page that may not be touched.
+ * Prints what failed; exit status 1 where anything did. */
 #include "guarded.h"
 
 #include "check.h"
@@ -92,11 +92,39 @@ static void no_room(void) {
   static char want[1 << 12];
   size_t at = (size_t)sprintf(list, START);
   size_t size = 0;
-  for (int k = 0; k < 257; k++) {
+  for (int k = 0; k <= CG_BENCH_CHANGES; k++) {
     at += (size_t)sprintf(list + at, "add\t%064x\t0\t%d\t%d\t1\t-\n", k, k + 1, k + 1);
-    size += (size_t)sprintf(want + size, "add\t%d\n", k < 256 ? 0 : 9);
+    size += (size_t)sprintf(want + size, "add\t%d\n", k < CG_BENCH_CHANGES ? 0 : 9);
   }
   run("257 changes", list, at, size, CG_DONE, want, size);
+}
+
+/* Changes of 32 dependencies each until 1,024 are in: then one more finds no room. */
+static void no_edge_room(void) {
+  static char list[1 << 17];
+  static char want[1 << 12];
+  size_t at = (size_t)sprintf(list, START "add\t%064x\t0\t1\t1\t1\t-\n", 0);
+  size_t size = (size_t)sprintf(want, "add\t0\n");
+  for (int k = 1; k <= CG_BENCH_EDGES / CG_DEPENDENCIES; k++) {
+    at += (size_t)sprintf(list + at, "add\t%064x\t0\t%d\t%d\t1\t", k, k + 1, k + 1);
+    for (int d = 0; d < CG_DEPENDENCIES; d++) {
+      at += (size_t)sprintf(list + at, "%s%064x", d > 0 ? "," : "", k - 1);
+    }
+    at += (size_t)sprintf(list + at, "\n");
+    size += (size_t)sprintf(want + size, "add\t0\n");
+  }
+  at += (size_t)sprintf(list + at, "add\t%064x\t1\t1\t1\t1\t%064x\n", 999, 0);
+  size += (size_t)sprintf(want + size, "add\t10\n");
+  run("1,025 dependencies", list, at, size, CG_DONE, want, size);
+}
+
+/* As many actors as there is room for, and one more. */
+static void no_actor_room(void) {
+  char list[100];
+  sprintf(list, "change list\t1\nactors\t%d\n", CG_BENCH_ACTORS);
+  run_all_rooms("16 actors", list, "");
+  sprintf(list, "change list\t1\nactors\t%d\n", CG_BENCH_ACTORS + 1);
+  run_all_rooms("17 actors", list, "bad\t2\n");
 }
 
 int main(void) {
@@ -110,7 +138,6 @@ int main(void) {
                 "add\t0\nadd\t0\nadd\t0\nheads\t" H2 "," H3 "\nclock\t1,1\nmissing\t" H3 "\nowner\t" H3 "\nadd\t3\nadd\t4\t" H4 "\n");
   run_all_rooms("empty input", "", "bad\t1\n");
   run_all_rooms("no second line", "change list\t1\n", "bad\t2\n");
-  run_all_rooms("17 actors", "change list\t1\nactors\t17\n", "bad\t2\n");
   run_all_rooms("nothing after the second line", START, "");
   run_all_rooms("answers before a bad line stand", START "heads\nx\nheads\n", "heads\t-\nbad\t4\n");
   run_all_rooms("a second actors line", START "actors\t2\n", "bad\t3\n");
@@ -120,5 +147,7 @@ int main(void) {
   run_all_rooms("an unknown actor owns nothing", START "owner\t2\t1\n", "owner\t14\n");
   long_lines();
   no_room();
+  no_edge_room();
+  no_actor_room();
   return summed_up("session");
 }

@@ -10,20 +10,6 @@ enum { STACK = 8 << 20 };
 static Graph g;
 static uint32_t number;
 
-static void line_of(uint32_t n) {
-  for (uint32_t k = 0; k < n; k++) {
-    hash_of(k + 1, g.hashes + 32 * k);
-    uint32_t node[6] = {k % 64, k / 64 + 1, k + 1, 1, k > 0 ? k : 0, k + 1 == n};
-    memcpy(g.nodes + 6 * k, node, sizeof node);
-    if (k > 0) {
-      g.edges[k - 1] = (Edge){k - 1, 0};
-    }
-  }
-  g.counts[0] = n;
-  g.counts[1] = n - 1;
-  g.counts[2] = 64;
-}
-
 static void *run_open(void *unused) {
   (void)unused;
   number = open_graph(&g, 64);
@@ -143,7 +129,7 @@ static void measure(const char *name, void *(*run)(void *)) {
 
 int main(void) {
   g = graph_of(4096, 16384, 64, 0);
-  line_of(4095);
+  line_of(&g, 4095);
   hash_of(4095, last);
   measure("cg_missing", run_missing);
   measure("cg_clock_of", run_clock_of);

@@ -23,7 +23,8 @@ else
     left_out "the C tests with sanitizers"
   fi
 fi
-for test in graph_test questions_test queue_test load_test session_test; do
+tests="graph_test questions_test queue_test load_test session_test"
+for test in $tests; do
   $CC $CFLAGS "host/$test.c" target/libchangegraph.a -o "target/host/$test"
   $RUN "target/host/$test"
   if [ -n "$MEMCHECK" ]; then
@@ -34,6 +35,20 @@ for test in graph_test questions_test queue_test load_test session_test; do
     "target/host/$test.sanitized"
   fi
 done
+
+# Each test notices what is wrong: with a header in which two numbers are exchanged it says what failed, and fails.
+other=target/host/other
+mkdir -p "$other/host" "$other/include"
+cp host/*.c host/*.h "$other/host/"
+sed 's/CG_DONE = 0/CG_DONE = 15/; s/CG_SHORT_BUFFER = 15/CG_SHORT_BUFFER = 0/' include/changegraph.h >"$other/include/changegraph.h"
+for test in $tests; do
+  $CC $CFLAGS "$other/host/$test.c" target/libchangegraph.a -o "$other/$test"
+  if $RUN "$other/$test" >"$other/said" 2>&1 || ! grep -q '^failed: ' "$other/said"; then
+    echo "$test does not say that CG_DONE and CG_SHORT_BUFFER are exchanged" >&2
+    exit 1
+  fi
+done
+echo "with two numbers of the header exchanged each of these tests fails"
 ran "the C tests${MEMCHECK:+, under valgrind}${sanitize:+, with sanitizers}"
 
 # A hub in small, and the session's tool on lists that are right.
@@ -45,6 +60,30 @@ for list in worked worked-clocks unchained; do
   $RUN target/host/session "examples/$list.list" | cmp - "examples/$list.answer"
 done
 echo "session: the lists of examples/ have their answers"
+
+# The stack that docs/MEMORY.md has, and no function of it left out; 4,096 bytes more are let pass, since the C library has a part of a thread's stack.
+# The benchmark of the session is only built.
+if [ -n "$RUN" ]; then
+  not_here "the measured stack"
+else
+  $CC $CFLAGS -pthread host/stack.c target/libchangegraph.a -o target/host/stack
+  target/host/stack | awk '
+    FNR == NR && /^[|] `cg_/ { split($0, part, "|"); gsub(/[ ,]/, "", part[3]); n = split(part[2], word, "`"); for (k = 2; k < n; k += 2) stated[word[k]] = part[3] }
+    FNR == NR { next }
+    / bytes of stack$/ {
+      name = $1
+      sub(/[:,]$/, "", name)
+      number = $(NF - 4) + 0
+      right = number == 0 || (name == "cg_owner" && number == 14) || (name == "cg_insert_actor" && number == 12)
+      if (!right || !(name in stated) || $(NF - 3) > stated[name] + 4096) { print "not as docs/MEMORY.md has it: " $0; wrong++ }
+      if (!(name in measured)) functions++
+      measured[name] = 1
+    }
+    END { for (name in stated) if (!(name in measured)) { print "not measured: " name; wrong++ }; print "stack: " functions " functions, " wrong + 0 " wrong"; exit wrong > 0 }
+  ' docs/MEMORY.md -
+  ran "the stack as docs/MEMORY.md has it"
+fi
+$CC $CFLAGS benchmarks/session.c target/libchangegraph.a -o target/host/session_benchmark
 
 # What the same tool says of wrong lists; and its reading of a line against the session's, over lists changed at random.
 host/session_tool_test.sh $RUN target/host/session
