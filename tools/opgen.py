@@ -62,7 +62,8 @@ def read_operation(source, name):
         raise SystemExit(f"opgen: {name} is not of the shape that README.md gives")
     given, _ = parenthesized(tail, call.end() - 1)
     args = [re.sub(r"^&(mut )?", "", a) for a in commas(given)]
-    return params, call.group(1), args, "&mut targets" not in given
+    along = re.search(r"let first = ([\w:]+)\(([^)]*)\);\s*let n = edges::parents_into\(edges, first, &mut parents\);", tail[:call.start()])
+    return params, call.group(1), args, "&mut targets" not in given, (along.group(1), commas(along.group(2))) if along else None
 
 
 def read_description(path):
@@ -180,6 +181,11 @@ class Walk:
 OWN = set("params Core Cored said given to-core walk core f key stated code mem run fm i j k m r u c p v x h h′ ts xs ys es".split())
 
 
+# what a walk along next cites beside them
+ALONG = ["lib.ListN.{length-replicate}", "base.Logic.{emp, monoR}", "contract.Monad.{factI}", "Rattle.edges.specs.Edges.{blank, localRoom}",
+         "Rattle.hub_deps.proofs.Parents.{few-local, few-fits, shares-few, shut-few, frees-few, zeroes-few, refers-few, copies, answers, ParentsInto, puts-down, knows-parents}"]
+
+
 def words(root):
     """The names that crates/edges/proofs/Words.antt passes on."""
     text = open(os.path.join(root, "crates", "edges", "proofs", "Words.antt"), encoding="utf-8").read()
@@ -196,9 +202,12 @@ class Operation:
     def __init__(self, crate, name, root):
         source = open(os.path.join(root, "crates", crate, "src", "lib.rt"), encoding="utf-8").read()
         self.crate, self.name, self.root = crate, name, root
-        self.params, core, self.args, self.shared = read_operation(source, name)
+        self.params, core, self.args, self.shared, self.along = read_operation(source, name)
         self.says = read_description(os.path.join(root, "tools", "ops", crate, name + ".op"))
         self.core_crate, self.core = core.split("::") if "::" in core else (crate, core)
+        if self.along:
+            self.first_crate, self.first = self.along[0].split("::")
+            self.first_args = self.along[1]
         self.by = {p.name: p for p in self.params}
         self.changes = self.by["edges"].kind == "mut"
         self.refs = [p for p in self.params if p.kind != "num"]
@@ -212,31 +221,45 @@ class Operation:
     # -- the locals, in MIR's order
     def lay_out(self):
         n = len(self.params) + 1
-        self.targets, self.nexts, self.count = n, n + 1, n + 2
-        n += 3
+        self.targets, self.nexts = n, n + 1
+        n += 2
+        if self.along:
+            self.parents = n
+            n += 1
+        self.count = n
+        n += 1
+        if self.along:
+            self.l_first, self.l_n = n, n + 1
+            n += 2
         if self.changes:
             self.result = n
             n += 1
-        self.unit = n
-        n += 1
 
         def pair():
             nonlocal n
             n += 2
             return n - 2, n - 1
+        if self.along:
+            self.t_parents = pair()
+        self.unit = n
+        n += 1
         self.t_edges = pair() if self.changes else None
         self.t_unpack = pair(), pair()
-        self.t_core = {a: pair() for a in self.args if a in ("targets", "nexts") or (a in self.by and self.by[a].kind == "mut")}
+        self.t_core = {a: pair() for a in self.args if a in ("targets", "nexts") or (a == "parents" and self.along) or (a in self.by and self.by[a].kind == "mut")}
         if self.changes:
             self.t_pack = pair(), pair(), pair()
         self.locals = n
 
     # -- the core's arguments
+    def is_met(self, a):
+        """The table that a walk along next puts nodes down in, and how many it met."""
+        return self.along and a in ("parents", "n")
+
     def is_count(self, a):
-        return a not in self.by and a not in ("targets", "nexts")
+        return a not in self.by and a not in ("targets", "nexts") and not self.is_met(a)
 
     def is_slice(self, a):
-        return a in ("targets", "nexts") or (a in self.by and self.by[a].kind != "num")
+        return a in ("targets", "nexts") or (a == "parents" and self.is_met(a)) or (a in self.by and self.by[a].kind != "num")
 
     def core_changes(self, a):
         return (not self.shared) if a in ("targets", "nexts") else (a in self.by and self.by[a].kind == "mut")
@@ -245,6 +268,8 @@ class Operation:
         """An argument of the core, as the proof names it."""
         if a in ("targets", "nexts"):
             return f"{'shr' if self.shared else 'mut'}-at (local {'μ l ζ ts' if a == 'targets' else 'μ′ l′ ζ′ xs'})"
+        if self.is_met(a):
+            return "shr-at (few-local μ″ l″ ζ″ ps)" if a == "parents" else "num w64 n n-fits"
         return "num w64 (length (elems edges)) (edges .room .0)" if self.is_count(a) else self.argument(self.by[a])
 
     def argument(self, p):
@@ -274,10 +299,44 @@ class Operation:
         else:
             out.append(f"  said : {{ts xs : List ℕ}} → Unpacked edges ts xs → Cored ts xs → ({R}) {lent()}\n"
                        f"  said u c = asked-of edges {' '.join(four(False))} u c ({self.says['refused']})\n")
+        if self.along:
+            plainly = " ".join(f"({p.name} : {'ℕ' if p.kind == 'num' else p.list()})" for p in self.params if p.kind != "mut")
+            out.append(f"-- where the walk along next begins, and what the core asks of what it put down\nmodule _ {plainly} where\n"
+                       f"  abbrev Begins : ℕ → Type 0\n  Begins first = first ≡ {self.says['first']}\n\n"
+                       f"  listed : {{ts xs ps : List ℕ}} {{first n : ℕ}} → Unpacked edges ts xs → Begins first → PutDown edges first n ps → {self.says['asks']}\n"
+                       f"  listed {{ts}} {{xs}} {{ps}} {{first}} {{n}} u b p = {self.says['listed']}\n")
         return "\n".join(out)
 
     def lists(self):
         return " ".join(p.name if p.kind == "num" else f"(elems {p.name})" for p in self.params)
+
+    # -- the walk along next, before the edges are unpacked: of what a `&` owns a third copy goes to the two callees
+    def walk_along(self, w):
+        few, label = sub(self.parents), f"_{self.parents}"
+        w.line()
+        for a in self.first_args + ["edges"]:
+            w.move("p·" + a)
+            w.emit(f"copies {a} ! $ ")
+            w.replace(["p·" + a], ["p·" + a, "c·" + a])
+        w.comment("the first edge")
+        w.move(*(["κ·" + a for a in self.first_args] + ["c·" + a for a in self.first_args]))
+        w.labels = w.labels[2 * len(self.first_args):]
+        plainly = " ".join(p.name if p.kind == "num" else f"(elems {p.name})" for p in self.params if p.kind != "mut")
+        w.emit(f"answers W w32 to-first (λ r _. Begins {plainly} r) (First 𝓤 H A mem run) (bound to-first) ! fm known-first (id⊢ 𝓤 _) (λ _. id⊢ 𝓤 _)")
+        w.line()
+        w.binds(f"{w.operands([self.index[a] for a in self.first_args], 1)} (λ first _ b first-fits. ")
+        w.labels[0:0] = ["κ·" + a for a in self.first_args]
+        w.lands(self.l_first, "(tt, record { fits = first-fits })")
+        w.comment("the nodes along next")
+        w.emit(f"refers-few ! {w.at(f'_{self.t_parents[0]}')} refl (tt, tt) refl {w.at(f'_{self.t_parents[1]}')} refl few-fits $ ")
+        w.move(label, "κ·edges", "c·edges")
+        w.labels[0:3] = []
+        operands = w.operands([self.index["edges"], self.l_first, self.t_parents[1]], 2)
+        w.line()
+        w.binds(f"puts-down mem run edges first first-fits {few} ! fm known-parents (λ i j. {operands[1:-1]}) (λ n ps p n-fits. ")
+        w.labels[0:0] = [label, "κ·edges"]
+        w.lands(self.l_n, "(tt, record { fits = n-fits })")
+        w.comment("the edges unpacked")
 
     # -- the walk itself
     def walk(self):
@@ -295,16 +354,25 @@ class Operation:
         w.line()
         for i in (self.targets, self.nexts):
             w.emit(f"zeroes ! {w.at(f'_{i}')} refl refl $ ")
+        if self.along:
+            w.emit(f"zeroes-few ! {w.at(f'_{self.parents}')} refl refl $ ")
         w.stores(w.part("counted", self.index["edges"], 1), self.count, "(tt, record { fits = edges .room .0 })")
         w.line()
+        opened = ["κ·" + p.name for p in self.refs] + [x for p in self.refs for x in (["p·" + p.name, "k·" + p.name] if p.kind == "shr" else ["p·" + p.name])]
+        if self.along:
+            w.move("entry")
+            w.emit("starts W given $ ")
+            w.replace(["entry"], opened)
+            self.walk_along(w)
         if self.changes:
             w.again(self.index["edges"], "edges", self.t_edges)
         w.whole(self.t_unpack[0])
         w.whole(self.t_unpack[1])
-        # the parameters apart, each `&` twice
-        w.move("entry")
-        w.emit("starts W given $ ")
-        w.replace(["entry"], ["κ·" + p.name for p in self.refs] + [x for p in self.refs for x in (["p·" + p.name, "k·" + p.name] if p.kind == "shr" else ["p·" + p.name])])
+        if not self.along:
+            # the parameters apart, each `&` twice
+            w.move("entry")
+            w.emit("starts W given $ ")
+            w.replace(["entry"], opened)
         # unpack
         w.move(la, lb, "κ·edges", "p·edges")
         tail = 4 if self.changes else 3
@@ -322,24 +390,38 @@ class Operation:
         for a in self.args:
             if a in ("targets", "nexts"):
                 w.whole(self.t_core[a])
+            elif self.is_met(a):
+                if a == "parents":
+                    w.emit(f"refers-few ! {w.at(f'_{self.t_core[a][0]}')} refl (tt, tt) refl {w.at(f'_{self.t_core[a][1]}')} refl few-fits $ ")
+                    w.line()
             elif a in self.t_core:
                 w.again(self.index[a], a, self.t_core[a])
         for label, l, nu, ghost, long, xs in ((la, A, "μ", "ζ", "h", "ts"), (lb, B, "μ′", "ζ′", "h′", "xs")):
             w.move(label)
             w.binds(f"{'shares' if self.shared else 'lends'} {xs} {l} ! tt (λ {nu} {ghost} {long if self.shared else '_'}. ")
             w.replace([label], [nu, "s·" + label, "L·" + label])
+        lp = f"_{self.parents}" if self.along else None
+        if self.along:
+            w.move(lp)
+            w.binds(f"shares-few ps {sub(self.parents)} ! tt (λ μ″ ζ″ h″. ")
+            w.replace([lp], ["μ″", f"s·{lp}", f"L·{lp}"])
         w.line()
         refs = [a for a in self.args if self.is_slice(a)]
-        token = {a: {"targets": "μ", "nexts": "μ′"}.get(a, "κ·" + a) for a in refs}
-        owner = {a: {"targets": "s·" + la, "nexts": "s·" + lb}.get(a, "p·" + a) for a in refs}
+        token = {a: {"targets": "μ", "nexts": "μ′", "parents": "μ″"}.get(a, "κ·" + a) for a in refs}
+        owner = {a: {"targets": "s·" + la, "nexts": "s·" + lb, "parents": f"s·{lp}"}.get(a, "p·" + a) for a in refs}
         w.move(*([token[a] for a in refs] + [owner[a] for a in refs]))
         w.labels = w.labels[2 * len(refs):]
-        local = lambda a: self.count if self.is_count(a) else self.t_core[a][1] if a in self.t_core else self.index[a]
+        local = lambda a: self.count if self.is_count(a) else self.t_core[a][1] if a in self.t_core else self.l_n if self.is_met(a) else self.index[a]
         at = f"(to-core μ μ′ ζ ζ′ {A} {B} ts xs)"
+        before = "(id⊢ 𝓤 _)"
+        if self.along:
+            plainly = " ".join(p.name if p.kind == "num" else f"(elems {p.name})" for p in self.params if p.kind != "mut")
+            at = f"(to-core μ μ′ ζ ζ′ {A} {B} ts xs μ″ ζ″ {sub(self.parents)} ps n n-fits)"
+            before = f"(monoR 𝓤 (sep 𝓤 (Tokens 𝓤 A {at}) (sem 𝓤 H A (Owns {at}))) (factI 𝓤 _ (emp 𝓤) (listed {plainly} u b p)))"
         path = {a: "(ys" + " .1" * i + " .0)" for i, a in enumerate(self.args)}
         written = {a: path[a] for a in self.args if self.core_changes(a)}
         cored = f"{self.lists()} r " + " ".join(written[p.name] for p in self.muts if p.name != "edges") + (f" {written['targets']} {written['nexts']}" if self.changes else "")
-        w.emit(f"asks W {at} (λ r ys. Cored {cored} ts xs) (Core 𝓤 H A mem run) (bound {at}) ! fm known-core (id⊢ 𝓤 _) (λ _. id⊢ 𝓤 _)")
+        w.emit(f"asks W {at} (λ r ys. Cored {cored} ts xs) (Core 𝓤 H A mem run) (bound {at}) ! fm known-core {before} (λ _. id⊢ 𝓤 _)")
         w.line()
         w.binds(f"{w.operands([local(a) for a in self.args], 1)} (λ v r ys c longs typed′. ")
         final = lambda a: {"targets": "f·" + la, "nexts": "f·" + lb}.get(a, "f·" + a)
@@ -356,6 +438,10 @@ class Operation:
                 w.move(nu, "L·" + label, "f·" + label)
                 w.emit(f"back {nu} {l} {ghost} {zs} ! tt $ ")
                 w.replace([nu, "L·" + label, "f·" + label], [label])
+        if self.along:
+            w.move("μ″", f"L·{lp}")
+            w.emit(f"shut-few μ″ {sub(self.parents)} ps h″ ! tt $ ")
+            w.replace(["μ″", f"L·{lp}"], [lp])
         if self.changes:
             w.comment("and back into the edges, which are given up for good")
             w.whole(self.t_pack[0])
@@ -378,6 +464,10 @@ class Operation:
             if i in tables:
                 w.move(f"_{i}", f"d{i}")
                 w.emit(f"frees-table {tables[i]} ! $ ")
+                w.replace([f"_{i}", f"d{i}"], [])
+            elif self.along and i == self.parents:
+                w.move(f"_{i}", f"d{i}")
+                w.emit("frees-few ps ! $ ")
                 w.replace([f"_{i}", f"d{i}"], [])
             else:
                 w.emit(f"frees ! {w.at(f'_{i}')} refl refl $ ")
@@ -406,19 +496,28 @@ class Operation:
         par = lambda p: f"number {WIDTH[p.type]}" if p.kind == "num" else f"{'reads' if p.kind == 'shr' else 'changes'} {lft[p.name]} tt {p.row()}"
         a(f"abbrev params : List (Par {len(self.refs)})\nparams = {chain(par(p) for p in self.params)}\n")
         a("abbrev Core : {M : Type 1} (𝓤 : URA M) (H : Heap 𝓤) (A : Atoms 𝓤) (mem : Memory → SProp 𝓤) (run : Routine → Fun 𝓤) → Contract 𝓤\nCore 𝓤 H A mem run = tripleOf 𝓤 H A core.signature (core.spec 𝓤 H A mem run)\n")
+        if self.along:
+            a("abbrev First : {M : Type 1} (𝓤 : URA M) (H : Heap 𝓤) (A : Atoms 𝓤) (mem : Memory → SProp 𝓤) (run : Routine → Fun 𝓤) → Contract 𝓤\nFirst 𝓤 H A mem run = tripleOf 𝓤 H A first-edge.signature (first-edge.spec 𝓤 H A mem run)\n")
         a(self.statement())
         # the walk
         known = [("unpack", "#unpack", "Unpack"), ("core", "core-def.name", "Core")] + ([("pack", "#pack", "Pack")] if self.changes else [])
+        known += [("first", "first-def.name", "First"), ("parents", "parents-def.name", "ParentsInto")] if self.along else []
         binders = " ".join(f"({p.name} : ℕ) ({p.name}-fits : {p.name} < 2 ^ {BITS[p.type]})" if p.kind == "num" else f"({p.name} : Lent {p.row()})" for p in self.params)
         a("module _ {M : Type 1} (𝓤 : URA M) (H : Heap 𝓤) (A : Atoms 𝓤) (W : Given 𝓤 H A) (mem : Memory → SProp 𝓤) (run : Routine → Fun 𝓤) (C : Calls 𝓤 H) (Λ : Loops 𝓤 H) (fm : FmC 𝓤 H (W .laws) C)\n    "
           + " ".join(f"(known-{n} : Triple 𝓤 (C {key}) ({N} 𝓤 H A mem run))" for n, key, N in known) + f"\n    {binders} where")
         a(f"  abbrev given : List Arg\n  given = {chain(self.argument(p) for p in self.params)}\n")
-        a(f"  abbrev to-core : ℕ → ℕ → GName → GName → ℕ → ℕ → List ℕ → List ℕ → List Arg\n  to-core μ μ′ ζ ζ′ l l′ ts xs = {chain(self.handed_on(x) for x in self.args)}\n")
+        more = (" → ℕ → GName → ℕ → List ℕ → (n : ℕ) → n < 2 ^ 64", " μ″ ζ″ l″ ps n n-fits") if self.along else ("", "")
+        a(f"  abbrev to-core : ℕ → ℕ → GName → GName → ℕ → ℕ → List ℕ → List ℕ{more[0]} → List Arg\n  to-core μ μ′ ζ ζ′ l l′ ts xs{more[1]} = {chain(self.handed_on(x) for x in self.args)}\n")
+        if self.along:
+            a(f"  abbrev to-first : List Arg\n  to-first = {chain('shr ' + x for x in self.first_args)}\n")
         a(f"  walk : Walk 𝓤 H A C Λ code.function params (f.clauses 𝓤 H A mem run) given (bound given)\n  walk =\n      {self.walk()}\n")
         # the theorem
         handed = " ".join(f"(x{' .1' * j} .0 .0) (x{' .1' * j} .0 .1)" if p.kind == "num" else f"(x{' .1' * j} .0)" for j, p in enumerate(self.params))
         at = "𝓤 H 𝓜 𝓖 𝓡"
         pack = f" (knows-pack {at} code.env code.calls-edges·pack)" if self.changes else ""
+        if self.along:
+            pack += (f"\n    (cited 𝓤 H (First 𝓤 H (𝓖 .A) (𝓜 .mem) (𝓡 .run)) 𝓜 𝓡 code.env first-def.name first-def.routine code.calls-{dash(self.first_crate)}·{dash(self.first)} (first-thm.met {at}))"
+                     f" (knows-parents {at} code.env code.calls-edges·parents-into)")
         a(f"pub {dash(self.name)}-spec : {{M : Type 1}} → stated.statement M\nunfolding code.routine\n{dash(self.name)}-spec {at} =\n"
           f"    proved {at} code.env key.name code.function (code.unfolded 𝓤 H 𝓜 𝓡) params (f.clauses 𝓤 H (𝓖 .A) (𝓜 .mem) (𝓡 .run)) (λ fm κs qs a _ are. let x : Handed params = handed params κs qs a are in\n"
           f"    walk 𝓤 H (𝓖 .A) (givenOf 𝓤 H 𝓜 𝓖) (𝓜 .mem) (𝓡 .run) _ _ fm (knows-unpack {at} code.env code.calls-edges·unpack)\n"
@@ -427,10 +526,14 @@ class Operation:
         body = "\n".join(out)
         o = own(self.name)
         head = [generated(self.crate, self.name),
-                f"-- `{self.crate}::{self.name}` meets its contract: a walk of its MIR, by hand, over `edges::unpack`, the covered core `{self.core}`" + (" and `edges::pack`" if self.changes else "") + ".",
+                f"-- `{self.crate}::{self.name}` meets its contract: a walk of its MIR, by hand, over " + (f"the covered `{self.along[0]}`, `edges::parents_into`, " if self.along else "") +
+                f"`edges::unpack`, the covered core `{self.core}`" + (" and `edges::pack`" if self.changes else "") + ".",
                 "-- All that the proof knows of the callees is that each meets its contract. What the walks share stands in crates/edges/proofs, and the script keeps the positions. Assumes nothing."]
-        head += [citations(body, self.root)] + ["use " + x for x in self.says["use"]]
+        head += [citations(body, self.root)] + ["use " + x for x in self.says["use"] + (ALONG if self.along else [])]
         head += [f"use {core} as core", f"use {core}.Symbol as core-def", f"use {core}.Met as core-thm"]
+        if self.along:
+            first = f"Rattle.{self.first_crate}.proofs.{self.first}"
+            head += [f"use {first} as first-edge", f"use {first}.Symbol as first-def", f"use {first}.Met as first-thm", "use Rattle.edges.proofs.parents_into.Symbol as parents-def"]
         head += [f"use {o} as f", f"use {o}.Key as key", f"use {o}.Statement as stated", f"use {o}.Code as code", ""]
         return "\n".join(head) + "\n" + body + "\n"
 
@@ -513,7 +616,7 @@ def main():
     for crate, name in todo:
         op = Operation(crate, name, root)
         files = {name: op.proof()}
-        if "question" in op.says:
+        if "question" in op.says and not op.along:
             q = Question(crate, name, root)
             files.update({q.name + "_checked": q.checked(), q.name + "_told": q.told()})
         for function, text in files.items():

@@ -1,130 +1,52 @@
--- The steps along a node's edge list, counting its dependencies and writing their hashes, and each answer from its condition.
+-- The steps of writing the hashes of listed nodes, and each answer from its condition.
 -- Assumes nothing.
-use mathlib.Core.Path.{_≡_, refl, sym, ap, _∙_}
+use mathlib.Core.Path.{_≡_, refl, sym, ap, subst, _∙_}
 use mathlib.Core.Bool.{true, or-true}
 use mathlib.Core.List.{List, [], _∷_, _++_, map, append-assoc, append-nil}
-use Prim.Native.Nat.{ℕ, _+_, _*_, _-_, _≤_, _<_}
+use Prim.Native.Nat.{ℕ, zero, suc, _+_, _*_, _≤_, _<_}
+use native.Mathlib.Nat.{not-suc-le-zero, le-of-suc-le-suc}
+use native.Mathlib.Numerals.{add-one}
 use native.Mathlib.Omega.{arith}
-use lib.Dec.{eqb}
-use lib.ListN.{length, getD, length-append}
-use borrow.Author.Tests.{eq-eqb, ne-eqb, lt-ltb, le-ltb}
+use lib.Dec.{eqb, ltb}
+use lib.ListN.{length, getD, take, length-append}
+use lib.Seq.{length-take-le}
+use borrow.Author.Tests.{eq-eqb, ne-eqb, ltb-true}
 use Rattle.paper.specs.Lists.{mem, hashAt}
 use Rattle.paper.specs.Text.{flat}
 use Rattle.paper.specs.Graph.{Graph, node}
-use Rattle.paper.proofs.Bools.{mem-cons, mem-here}
+use Rattle.paper.proofs.Bools.{by-bool, not-both, mem-nil, mem-cons, mem-here, mem-getD}
 use Rattle.hash.specs.HashLaws.{hash-length}
-use Rattle.tables.specs.Tables.{Tables, changes, firstAt, along, graph}
+use Rattle.tables.specs.Tables.{Tables, changes, graph}
 use Rattle.tables.specs.Valid.{Valid}
-use Rattle.tables.specs.DepsLaws.{links-end, deps-few, valid-graph}
-use Rattle.walk.specs.Marks.{Chain}
-use Rattle.walk.specs.MarkLaws.{chain-in, chain-target, chain-rest, chain-next, node-chain}
+use Rattle.tables.specs.DepsLaws.{valid-graph}
 use Rattle.list_laws.specs.Over.{over}
 use Rattle.answer_buffer.specs.Answers.{listAnswer, filled}
-use Rattle.answer_buffer.specs.AnswerLaws.{Holds, holds-start, holds-next, holds-as, listed-done, filled-done}
+use Rattle.answer_buffer.specs.AnswerLaws.{Holds, holds-start, holds-next, holds-as}
 use Rattle.answer_buffer.specs.Room.{room}
-use Rattle.answer_buffer.specs.declared.Listed.the-variants.{Done, Malformed}
+use Rattle.answer_buffer.specs.declared.Listed.the-variants.{Malformed}
 use Rattle.deps.specs.Deps.{node-deps, hash-deps, deps-told, deps-filled}
+use Rattle.deps.specs.Parents.{deps-nodes, DepsListed}
 
--- node k's edge list
-abbrev pub edge-list : Tables → ℕ → List ℕ
-edge-list t e = along (t .targets) (t .nexts) e
+-- ---- the hashes of listed nodes
 
--- ---- counting: what is counted and what is left are all
+take-last : (i : ℕ) (ps : List ℕ) → i < length ps → take (i + 1) ps ≡ take i ps ++ (getD ps i 0 ∷ [])
+take-last i ps l = rw (add-one i) (go i ps l)
+  where
+    go : (i : ℕ) (ps : List ℕ) → i < length ps → take (suc i) ps ≡ take i ps ++ (getD ps i 0 ∷ [])
+    go i [] l = absurd (not-suc-le-zero l)
+    go zero (p ∷ ps) l = refl
+    go (suc i) (p ∷ ps) l = ap (λ (r : List ℕ). p ∷ r) (go i ps (le-of-suc-le-suc l))
 
-pub record Counting (t : Tables) (k c e : ℕ) : Type 0 where
-  pub chain : Chain (t .targets) (t .nexts) k e
-  pub both : c + length (edge-list t e) ≡ length (graph t .deps k)
-
-pub counting-start : (t : Tables) → Valid t → (k : ℕ) → k < changes t → Counting t k 0 (firstAt (t .nodes) k)
-counting-start t v k l = record { chain = node-chain t (v .sound) k l; both = omega arith }
-
--- a list has at most 32 edges
-pub few : (t : Tables) → Valid t → (k : ℕ) → k < changes t → length (graph t .deps k) ≤ 32
-few t v k l = deps-few (t .nodes) (t .targets) (t .nexts) (v .sound .laid) (v .sound .counts .edges-fit) k l
-
-module _ (t : Tables) (v : Valid t) (k e : ℕ) (chain : Chain (t .targets) (t .nexts) k e) (pos : 0 < e) where
-  pub edge-in : e - 1 < length (t .targets)
-  edge-in = chain-in (t .targets) (t .nexts) k e chain pos
-
-  pub next-in : e - 1 < length (t .nexts)
-  next-in = let a = edge-in in let b = v .sound .lengths .nexts-same in omega arith
-
-  pub edge-rest : edge-list t e ≡ getD (t .targets) (e - 1) 0 ∷ edge-list t (getD (t .nexts) (e - 1) 0)
-  edge-rest = chain-rest (t .targets) (t .nexts) k e chain pos
-
-  pub edge-less : length (edge-list t (getD (t .nexts) (e - 1) 0)) < length (edge-list t e)
-  edge-less = rw edge-rest (omega arith)
-
-pub counting-next : (t : Tables) (v : Valid t) {k c e : ℕ} → Counting t k c e → 0 < e → Counting t k (c + 1) (getD (t .nexts) (e - 1) 0)
-counting-next t v {k} {c} {e} i p = record {
-  chain = chain-next (t .targets) (t .nexts) k e (i .chain) p;
-  both = (let b = i .both in let r = ap length (edge-rest t v k e (i .chain) p) in omega arith);
-}
-
-pub list-end : (t : Tables) (e : ℕ) → e ≡ 0 → edge-list t e ≡ []
-list-end t e z = ap (edge-list t) z ∙ links-end (t .targets) (t .nexts) (length (t .targets))
-
-pub counting-end : (t : Tables) {k c e : ℕ} → Counting t k c e → e ≡ 0 → c ≡ length (graph t .deps k)
-counting-end t {k} {c} {e} i z = let b = i .both in let r = ap length (list-end t e z) in omega arith
-
--- ---- writing: the hashes of what is done stand in the buffer, and what is done and what is left are all
-
-pub record Telling (t : Tables) (k : ℕ) (out₀ out : List ℕ) (c e : ℕ) : Type 0 where
-  pub done : List ℕ
-  pub chain : Chain (t .targets) (t .nexts) k e
-  pub both : done ++ edge-list t e ≡ graph t .deps k
-  pub size : c ≡ 32 * length done
-  pub holds : Holds (flat (map (graph t .hash) done)) out₀ out c
-
-pub telling-start : (t : Tables) → Valid t → (k : ℕ) → k < changes t → (out : List ℕ) → Telling t k out out 0 (firstAt (t .nodes) k)
-unfolding flat
-telling-start t v k l out = record { done = []; chain = node-chain t (v .sound) k l; both = refl; size = refl; holds = holds-start out }
+get-take : (n i : ℕ) (ps : List ℕ) → i < n → getD (take n ps) i 0 ≡ getD ps i 0
+get-take zero i ps l = absurd (not-suc-le-zero l)
+get-take (suc n) i [] l = refl
+get-take (suc n) zero (p ∷ ps) l = refl
+get-take (suc n) (suc i) (p ∷ ps) l = get-take n i ps (le-of-suc-le-suc l)
 
 flat-last : (f : ℕ → List ℕ) (l : List ℕ) (x : ℕ) → flat (map f (l ++ (x ∷ []))) ≡ flat (map f l) ++ f x
 unfolding flat
 flat-last f [] x = append-nil (f x)
 flat-last f (y ∷ l) x = ap (λ (r : List ℕ). f y ++ r) (flat-last f l x) ∙ sym (append-assoc (f y) (flat (map f l)) (f x))
-
-module _ (t : Tables) (v : Valid t) (k : ℕ) (low : k < changes t) {out₀ out : List ℕ} {c e : ℕ} (i : Telling t k out₀ out c e) (pos : 0 < e) where
-  -- the dependency at hand
-  pub target-low : getD (t .targets) (e - 1) 0 < changes t
-  target-low = let b = chain-target (t .targets) (t .nexts) k e (i .chain) pos in omega arith
-
-  pub target-in : 32 * getD (t .targets) (e - 1) 0 + 32 ≤ length (t .hashes)
-  target-in = let b = target-low in let h = room t v .hashes-in in omega arith
-
-  module _ (fits : 32 * length (graph t .deps k) ≤ length out₀) where
-    pub telling-room : c + 32 ≤ length out
-    telling-room =
-        let b = ap length (i .both) in
-        let a = length-append (i .done) (edge-list t e) in
-        let r = ap length (edge-rest t v k e (i .chain) pos) in
-        let s = i .size in
-        let h = i .holds .kept in
-        omega arith
-
-    pub telling-next : Telling t k out₀ (over out c (hashAt (t .hashes) (getD (t .targets) (e - 1) 0))) (c + 32) (getD (t .nexts) (e - 1) 0)
-    telling-next =
-        let x = getD (t .targets) (e - 1) 0 in
-        record {
-          done = i .done ++ (x ∷ []);
-          chain = chain-next (t .targets) (t .nexts) k e (i .chain) pos;
-          both = append-assoc (i .done) (x ∷ []) (edge-list t (getD (t .nexts) (e - 1) 0)) ∙ ap (λ (r : List ℕ). i .done ++ r) (sym (edge-rest t v k e (i .chain) pos)) ∙ i .both;
-          size = (let s = i .size in let a = length-append (i .done) (x ∷ []) in omega arith);
-          holds =
-              holds-as
-              (holds-next (i .holds) (hashAt (t .hashes) x) 32 (hash-length (t .hashes) x target-in) (let r = telling-room in let h = i .holds .kept in omega arith))
-              (flat (map (graph t .hash) (i .done ++ (x ∷ []))))
-              (sym (flat-last (graph t .hash) (i .done) x));
-        }
-
-pub telling-end : (t : Tables) {k : ℕ} {out₀ out : List ℕ} {c e : ℕ} → Telling t k out₀ out c e → e ≡ 0 → Holds (node-deps (graph t) k) out₀ out c
-unfolding node-deps
-telling-end t {k} {out₀} {out} {c} {e} i z =
-    holds-as (i .holds) (flat (map (graph t .hash) (graph t .deps k)))
-    (ap (λ (l : List ℕ). flat (map (graph t .hash) l)) (sym (append-nil (i .done)) ∙ ap (λ (r : List ℕ). i .done ++ r) (sym (list-end t e z)) ∙ i .both))
-
--- ---- how long the answer is
 
 flat-wide : (f : ℕ → List ℕ) (l : List ℕ) → ((j : ℕ) → mem j l ≡ true → length (f j) ≡ 32) → length (flat (map f l)) ≡ 32 * length l
 unfolding flat
@@ -135,9 +57,64 @@ flat-wide f (x ∷ l) w =
     let r = flat-wide f l (λ j m. w j (mem-cons j x l ∙ rw m (or-true (eqb j x)))) in
     omega arith
 
-pub deps-long : (t : Tables) (v : Valid t) (k : ℕ) → k < changes t → length (node-deps (graph t) k) ≡ 32 * length (graph t .deps k)
-unfolding node-deps
-deps-long t v k l = flat-wide (graph t .hash) (graph t .deps k) (λ j m. hash-length (t .hashes) j (let d = valid-graph t (v .sound) .down k j l m in let h = room t v .hashes-in in omega arith))
+-- the answer is the hashes of the nodes that the hash depends on
+hashes-of : (g : Graph) (h : List ℕ) → flat (map (g .hash) (deps-nodes g h)) ≡ hash-deps g h
+unfolding deps-nodes hash-deps node-deps flat
+hashes-of g h = by-bool (ltb (node g h) (g .size)) (λ t. rw t) (λ f. rw f)
+
+-- which are nodes
+nodes-low : (t : Tables) → Valid t → (h : List ℕ) (j : ℕ) → mem j (deps-nodes (graph t) h) ≡ true → j < changes t
+unfolding deps-nodes
+nodes-low t v h j = by-bool (ltb (node (graph t) h) (changes t))
+    (λ y. rw y (λ m. let l = ltb-true (node (graph t) h) (changes t) y in let d = valid-graph t (v .sound) .down (node (graph t) h) j l m in omega arith))
+    (λ f. rw f (λ m. not-both m (mem-nil j)))
+
+module _ (t : Tables) (v : Valid t) (h ps : List ℕ) (n : ℕ) (d : DepsListed t h ps n) (one : length h ≡ 32) where
+  pub target-low : (i : ℕ) → i < n → getD ps i 0 < changes t
+  target-low i l =
+      let b = d .long in
+      let w : length (take n ps) ≡ n = length-take-le n ps b in
+      nodes-low t v h (getD ps i 0) (subst (λ (q : List ℕ). mem (getD ps i 0) q ≡ true) (d .listed one) (subst (λ (x : ℕ). mem x (take n ps) ≡ true) (get-take n i ps l) (mem-getD (take n ps) i (omega arith))))
+
+  pub target-in : (i : ℕ) → i < n → 32 * getD ps i 0 + 32 ≤ length (t .hashes)
+  target-in i l = let b = target-low i l in let r = room t v .hashes-in in omega arith
+
+  listed-hashes : flat (map (graph t .hash) (take n ps)) ≡ hash-deps (graph t) h
+  listed-hashes = ap (λ (q : List ℕ). flat (map (graph t .hash) q)) (d .listed one) ∙ hashes-of (graph t) h
+
+  pub deps-long : length (hash-deps (graph t) h) ≡ 32 * n
+  deps-long =
+      let b = d .long in
+      let w : length (take n ps) ≡ n = length-take-le n ps b in
+      let r = room t v .hashes-in in
+      let f = flat-wide (graph t .hash) (take n ps) (λ j m. hash-length (t .hashes) j (let l = nodes-low t v h j (subst (λ (q : List ℕ). mem j q ≡ true) (d .listed one) m) in omega arith)) in
+      let e = ap length listed-hashes in
+      omega arith
+
+-- ---- writing them: those of the first i stand in the buffer
+
+pub record Telling (t : Tables) (ps out₀ out : List ℕ) (c i : ℕ) : Type 0 where
+  pub size : c ≡ 32 * i
+  pub holds : Holds (flat (map (graph t .hash) (take i ps))) out₀ out c
+
+pub telling-start : (t : Tables) (ps out : List ℕ) → Telling t ps out out 0 0
+unfolding flat
+telling-start t ps out = record { size = refl; holds = holds-start out }
+
+pub telling-next : (t : Tables) (ps : List ℕ) {out₀ out : List ℕ} {c i : ℕ} → Telling t ps out₀ out c i → i < length ps → 32 * getD ps i 0 + 32 ≤ length (t .hashes) → c + 32 ≤ length out₀
+    → Telling t ps out₀ (over out c (hashAt (t .hashes) (getD ps i 0))) (c + 32) (i + 1)
+telling-next t ps {out₀} {out} {c} {i} s l w f =
+    let x = getD ps i 0 in
+    record {
+      size = (let z = s .size in omega arith);
+      holds =
+          holds-as (holds-next (s .holds) (hashAt (t .hashes) x) 32 (hash-length (t .hashes) x w) f) (flat (map (graph t .hash) (take (i + 1) ps)))
+          (sym (ap (λ (q : List ℕ). flat (map (graph t .hash) q)) (take-last i ps l) ∙ flat-last (graph t .hash) (take i ps) x));
+    }
+
+pub telling-end : (t : Tables) (v : Valid t) (h ps : List ℕ) (n : ℕ) (d : DepsListed t h ps n) (one : length h ≡ 32) {out₀ out : List ℕ} {c i : ℕ} → Telling t ps out₀ out c i → i ≡ n → Holds (hash-deps (graph t) h) out₀ out c
+telling-end t v h ps n d one {out₀} {out} {c} {i} s e =
+    holds-as (s .holds) (hash-deps (graph t) h) (ap (λ (k : ℕ). flat (map (graph t .hash) (take k ps))) e ∙ listed-hashes t v h ps n d one)
 
 -- ---- each answer
 
@@ -151,18 +128,10 @@ module _ (g : Graph) (h : List ℕ) where
   unfilled-bad n out = rw (ne-eqb (length h) 32 n)
 
   module _ (l : length h ≡ 32) where
-    pub deps-none : node g h ≡ g .size → (room : ℕ) → deps-told g h room ≡ Done 0
-    unfolding deps-told hash-deps
-    deps-none e room = rw (eq-eqb (length h) 32 l, le-ltb (node g h) (g .size) (omega arith)) (listed-done [] room (omega arith))
+    pub deps-one : (room : ℕ) → deps-told g h room ≡ listAnswer (hash-deps g h) room
+    unfolding deps-told
+    deps-one room = rw (eq-eqb (length h) 32 l)
 
-    pub unfilled-none : node g h ≡ g .size → (out : List ℕ) → deps-filled g h out ≡ out
-    unfolding deps-filled hash-deps
-    unfilled-none e out = rw (eq-eqb (length h) 32 l, le-ltb (node g h) (g .size) (omega arith)) (filled-done [] out (omega arith))
-
-    pub deps-known : (k : ℕ) → node g h ≡ k → k < g .size → (room : ℕ) → deps-told g h room ≡ listAnswer (node-deps g k) room
-    unfolding deps-told hash-deps
-    deps-known k e b room = rw (eq-eqb (length h) 32 l, lt-ltb (node g h) (g .size) (omega arith)) (ap (λ (i : ℕ). listAnswer (node-deps g i) room) e)
-
-    pub filled-known : (k : ℕ) → node g h ≡ k → k < g .size → (out : List ℕ) → deps-filled g h out ≡ filled (node-deps g k) out
-    unfolding deps-filled hash-deps
-    filled-known k e b out = rw (eq-eqb (length h) 32 l, lt-ltb (node g h) (g .size) (omega arith)) (ap (λ (i : ℕ). filled (node-deps g i) out) e)
+    pub filled-one : (out : List ℕ) → deps-filled g h out ≡ filled (hash-deps g h) out
+    unfolding deps-filled
+    filled-one out = rw (eq-eqb (length h) 32 l)

@@ -1,2 +1,4 @@
 pub mod Deps
 pub mod DepsLaws
+pub mod Parents
+pub mod ParentsLaws

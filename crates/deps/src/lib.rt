@@ -1,67 +1,40 @@
-// The dependencies of a hash over valid tables, in listed order with repeats. Nothing is changed but the lent buffer.
+// The dependencies of a hash, in listed order with repeats: where its list of edges begins, and the hashes of the nodes that a walk along that list put down.
+// Nothing is changed but the lent buffer.
 ghost use mathlib.Core.Path.{_≡_};
-ghost use Prim.Native.Nat.{ℕ, _+_, _*_, _≤_, _<_};
+ghost use Prim.Native.Nat.{ℕ};
 ghost use lib.ListN.{length};
-ghost use Rattle.tables.specs.Tables.{tables, graph, changes};
+ghost use Rattle.tables.specs.Tables.{tables, graph};
 ghost use Rattle.tables.specs.Valid.{Valid};
-ghost use Rattle.answer_buffer.specs.Answers.{listAnswer, filled};
-ghost use Rattle.deps.specs.Deps.{node-deps, deps-told, deps-filled};
+ghost use Rattle.deps.specs.Deps.{deps-told, deps-filled};
+ghost use Rattle.deps.specs.Parents.{edgeOfHash, DepsListed};
 use answer_buffer::Listed;
 use hash::Found;
 
-// How many dependencies node k has.
-fn count_deps(
-    hashes: &[u8],
-    nodes: &[u32],
-    targets: &[u32],
-    nexts: &[u32],
-    clocks: &[u32],
-    counts: &[u32],
-    k: usize,
-) -> usize
-    requires { ⌜ Valid (tables (now hashes) (now nodes) (now targets) (now nexts) (now clocks) (now counts)) × (k < changes (tables (now hashes) (now nodes) (now targets) (now nexts) (now clocks) (now counts))) ⌝ }
-    ensures { λ r. ⌜ r ≡ length (graph (tables (now (hashes .entry)) (now (nodes .entry)) (now (targets .entry)) (now (nexts .entry)) (now (clocks .entry)) (now (counts .entry))) .deps k) ⌝ }
+// The number + 1 of the first edge of a hash, or 0 where it has none. Nothing is asked of the tables: 0 too where they are too short, or the hash is no hash.
+pub fn first_edge(hashes: &[u8], nodes: &[u32], counts: &[u32], hash: &[u8]) -> u32
+    ensures { λ r. ⌜ r ≡ edgeOfHash (now (hashes .entry)) (now (nodes .entry)) (now (counts .entry)) (now (hash .entry)) ⌝ }
 {
-    let mut c: usize = 0;
-    let mut e = nodes[6 * k + 4] as usize;
-    while e != 0 {
-        e = nexts[e - 1] as usize;
-        c += 1;
+    if hash.len() != 32 {
+        return 0;
     }
-    c
+    if counts.len() == 0 {
+        return 0;
+    }
+    let n = counts[0] as usize;
+    if hashes.len() < 32 * n {
+        return 0;
+    }
+    let Found::At(k) = hash::find(hashes, n, hash) else {
+        return 0;
+    };
+    let at = 6 * k + 4;
+    if nodes.len() <= at {
+        return 0;
+    }
+    nodes[at]
 }
 
-// The hashes of node k's dependencies, one after the other.
-fn deps_into(
-    hashes: &[u8],
-    nodes: &[u32],
-    targets: &[u32],
-    nexts: &[u32],
-    clocks: &[u32],
-    counts: &[u32],
-    k: usize,
-    out: &mut [u8],
-) -> Listed
-    requires { ⌜ Valid (tables (now hashes) (now nodes) (now targets) (now nexts) (now clocks) (now counts)) × (k < changes (tables (now hashes) (now nodes) (now targets) (now nexts) (now clocks) (now counts))) ⌝ }
-    ensures { λ r. ⌜ r ≡ listAnswer (node-deps (graph (tables (now (hashes .entry)) (now (nodes .entry)) (now (targets .entry)) (now (nexts .entry)) (now (clocks .entry)) (now (counts .entry)))) k) (length (now (out .entry))) ⌝ }
-    ensures { λ _. ⌜ now (out .exit) ≡ filled (node-deps (graph (tables (now (hashes .entry)) (now (nodes .entry)) (now (targets .entry)) (now (nexts .entry)) (now (clocks .entry)) (now (counts .entry)))) k) (now (out .entry)) ⌝ }
-{
-    let count = count_deps(hashes, nodes, targets, nexts, clocks, counts, k);
-    if out.len() / 32 < count {
-        return Listed::Short;
-    }
-    let mut c: usize = 0;
-    let mut e = nodes[6 * k + 4] as usize;
-    while e != 0 {
-        let t = targets[e - 1] as usize;
-        answer_buffer::put_hash(out, c, hashes, t);
-        c += 32;
-        e = nexts[e - 1] as usize;
-    }
-    Listed::Done(c)
-}
-
-// The hashes of the dependencies of a hash. An unknown hash has none.
+// The hashes of the dependencies of a hash, which are the first n of `parents`. An unknown hash has none.
 pub fn deps_for_hash(
     hashes: &[u8],
     nodes: &[u32],
@@ -70,18 +43,27 @@ pub fn deps_for_hash(
     clocks: &[u32],
     counts: &[u32],
     hash: &[u8],
+    parents: &[u32],
+    n: usize,
     out: &mut [u8],
 ) -> Listed
-    requires { ⌜ Valid (tables (now hashes) (now nodes) (now targets) (now nexts) (now clocks) (now counts)) ⌝ }
+    requires { ⌜ Valid (tables (now hashes) (now nodes) (now targets) (now nexts) (now clocks) (now counts)) × DepsListed (tables (now hashes) (now nodes) (now targets) (now nexts) (now clocks) (now counts)) (now hash) (now parents) n ⌝ }
     ensures { λ r. ⌜ r ≡ deps-told (graph (tables (now (hashes .entry)) (now (nodes .entry)) (now (targets .entry)) (now (nexts .entry)) (now (clocks .entry)) (now (counts .entry)))) (now (hash .entry)) (length (now (out .entry))) ⌝ }
     ensures { λ _. ⌜ now (out .exit) ≡ deps-filled (graph (tables (now (hashes .entry)) (now (nodes .entry)) (now (targets .entry)) (now (nexts .entry)) (now (clocks .entry)) (now (counts .entry)))) (now (hash .entry)) (now (out .entry)) ⌝ }
 {
     if hash.len() != 32 {
         return Listed::Malformed;
     }
-    let n = counts[0] as usize;
-    let Found::At(k) = hash::find(hashes, n, hash) else {
-        return Listed::Done(0);
-    };
-    deps_into(hashes, nodes, targets, nexts, clocks, counts, k, out)
+    if out.len() / 32 < n {
+        return Listed::Short;
+    }
+    let mut c: usize = 0;
+    let mut i: usize = 0;
+    while i < n {
+        let t = parents[i] as usize;
+        answer_buffer::put_hash(out, c, hashes, t);
+        c += 32;
+        i += 1;
+    }
+    Listed::Done(c)
 }

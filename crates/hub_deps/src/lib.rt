@@ -1,6 +1,7 @@
 // The dependencies of a change through the C face, over edge records. It checks what it is lent: it has no `requires`.
-// `deps_for_hash_checked` checks the tables and asks the core; `deps_for_hash_told` does so with the first e edges of two larger tables;
-// `cg_deps_for_hash` unpacks the records into two such tables and calls `deps_for_hash_told`. Nothing changes but the buffer and the place.
+// `cg_deps_for_hash` finds where the change's list of edges begins, and has `edges::parents_into` walk it along next over the records themselves: that ends
+// on any tables. Then it unpacks the records into two tables for the check: `deps_for_hash_told` takes the first e edges of these, and
+// `deps_for_hash_checked` checks the tables and tells the hashes of the nodes that the walk put down. Nothing changes but the buffer and the place.
 ghost use mathlib.Core.Path.{_≡_};
 ghost use mathlib.Core.Bool.{true};
 ghost use mathlib.Core.Logic.{_↔_};
@@ -9,6 +10,7 @@ ghost use Rattle.tables.specs.Valid.{Valid};
 ghost use Rattle.edges.specs.Edges.{lent};
 ghost use Rattle.edges.specs.Told.{AskedOverFirst};
 ghost use Rattle.hub_answer.specs.Asks.{Untouched};
+ghost use Rattle.hub_deps.specs.Listed.{ListedIfValid, ListedOfFirst};
 ghost use Rattle.hub_deps.specs.Operations.{DepsForHash};
 use edges::Edge;
 
@@ -21,15 +23,29 @@ fn deps_for_hash_checked(
     clocks: &[u32],
     counts: &[u32],
     hash: &[u8],
+    parents: &[u32],
+    n: usize,
     out: &mut [u8],
     told: &mut [u64],
 ) -> u32
+    requires { ⌜ ListedIfValid (tables (now hashes) (now nodes) (now targets) (now nexts) (now clocks) (now counts)) (now hash) (now parents) n ⌝ }
     ensures { λ r. ⌜ DepsForHash (now (hash .entry)) (now (out .entry)) (now (told .entry)) r (now (out .exit)) (now (told .exit)) (tables (now (hashes .entry)) (now (nodes .entry)) (now (targets .entry)) (now (nexts .entry)) (now (clocks .entry)) (now (counts .entry))) ⌝ }
 {
     if !cache::valid(hashes, nodes, targets, nexts, clocks, counts) {
         return 1;
     }
-    let bytes = deps::deps_for_hash(hashes, nodes, targets, nexts, clocks, counts, hash, out);
+    let bytes = deps::deps_for_hash(
+        hashes,
+        nodes,
+        targets,
+        nexts,
+        clocks,
+        counts,
+        hash,
+        parents,
+        n,
+        out,
+    );
     hub_answer::listed(bytes, told)
 }
 
@@ -42,9 +58,12 @@ fn deps_for_hash_told(
     clocks: &[u32],
     counts: &[u32],
     hash: &[u8],
+    parents: &[u32],
+    n: usize,
     out: &mut [u8],
     told: &mut [u64],
 ) -> u32
+    requires { ⌜ ListedOfFirst e (tables (now hashes) (now nodes) (now targets) (now nexts) (now clocks) (now counts)) (now hash) (now parents) n ⌝ }
     ensures { λ r. ⌜ AskedOverFirst (DepsForHash (now (hash .entry)) (now (out .entry)) (now (told .entry)) r (now (out .exit)) (now (told .exit))) (Untouched (now (out .entry)) (now (told .entry)) r (now (out .exit)) (now (told .exit))) e (tables (now (hashes .entry)) (now (nodes .entry)) (now (targets .entry)) (now (nexts .entry)) (now (clocks .entry)) (now (counts .entry))) ⌝ }
 {
     if targets.len() < e {
@@ -61,6 +80,8 @@ fn deps_for_hash_told(
         clocks,
         counts,
         hash,
+        parents,
+        n,
         out,
         told,
     )
@@ -82,7 +103,10 @@ pub extern "C" fn cg_deps_for_hash(
 {
     let mut targets = [0u32; 16384];
     let mut nexts = [0u32; 16384];
+    let mut parents = [0u32; 32];
     let e = edges.len();
+    let first = deps::first_edge(hashes, nodes, counts, hash);
+    let n = edges::parents_into(edges, first, &mut parents);
     edges::unpack(edges, &mut targets, &mut nexts);
     deps_for_hash_told(
         hashes,
@@ -93,6 +117,8 @@ pub extern "C" fn cg_deps_for_hash(
         clocks,
         counts,
         hash,
+        &parents,
+        n,
         out,
         told,
     )

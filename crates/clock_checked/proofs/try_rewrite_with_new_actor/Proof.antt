@@ -1,7 +1,6 @@
 -- `clock_checked::try_rewrite_with_new_actor` meets its contract: each refusal by its test, and else what `rewrite_with_new_actor` does.
 -- Assumes nothing.
 use mathlib.Core.Path.{sym, _∙_}
-use native.Mathlib.Omega.{arith}
 use borrow.Author.Tests.{not-true, not-false, lt-ltb, le-ltb, le-leb, lt-leb}
 use borrow.Author.Needs.{needs}
 use Rattle.clock_checked.proofs.try_rewrite_with_new_actor.Statement.{statement}
