@@ -3,7 +3,7 @@
  *
  * Every function returns one of the numbers below. A slice is a pointer and a length in elements, in this order. The caller lends
  * all memory; slices of one call must not overlap where one of them is written. A pointer is never null: an empty slice has any
- * valid pointer and the length 0.
+ * valid pointer and the length 0. A call takes at most 275,816 bytes of stack (docs/MEMORY.md).
  */
 #ifndef CHANGEGRAPH_H
 #define CHANGEGRAPH_H

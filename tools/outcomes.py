@@ -1,7 +1,7 @@
 #!/usr/bin/env python3
 """outcomes.py: each C function has its theorem in crates/one_outcome that two outcomes are one, and the theorem speaks of the very promise that the function has: the text of each
 `ensures`, once for either outcome (what is lent at entry by its name, at exit with ′ or ″ after it), and its conclusion compares the number and every parameter lent by `&mut`.
-Prints what is not so; exit status 1 where anything is not."""
+And each is a case of `PublicCall`, over which demand 1 is proved, by the promise of the same name. Prints what is not so; exit status 1 where anything is not."""
 import glob
 import os
 import re
@@ -50,10 +50,28 @@ def wrong(name, parameters, promises, laws):
         yield f"{theorem}: compares {sorted(concluded)} and not {sorted(changed)}"
 
 
+def not_called(name, promises, calls, session):
+    """Whether the function is a case of `PublicCall`, by its promise. That of cg_session is the record of its three promises."""
+    case = re.search(r"^  " + name.replace("_", "-") + r" :(.*)$", calls, re.M)
+    if not case:
+        yield f"{name}: no case of PublicCall"
+    elif name == "cg_session":
+        for promise in promises:
+            said = re.sub(r"\banswer\b", "out", outcome(promise, "′")).replace("r′ ≡", "r ≡")
+            if said not in session or "SessionAnswered" not in case.group(1):
+                yield f"{name}: SessionAnswered does not say {said}"
+    elif not re.search(r"→ " + promises[0].split(" ")[0] + r" .*→ PublicCall r ", case.group(1)):
+        yield f"{name}: its case of PublicCall is not by {promises[0].split(' ')[0]}"
+
+
 def main():
     laws = "\n".join(open(p, encoding="utf-8").read() for p in sorted(glob.glob("crates/one_outcome/specs/*Functions.antt")))
     every = list(functions())
-    found = [w for name, parameters, promises in every for w in wrong(name, parameters, promises, laws)]
+    calls = open("crates/demands/specs/PublicCalls.antt", encoding="utf-8").read()
+    session = open("crates/demands/specs/Session.antt", encoding="utf-8").read()
+    found = [w for name, parameters, promises in every for w in [*wrong(name, parameters, promises, laws), *not_called(name, promises, calls, session)]]
+    if len(re.findall(r"^  cg-[a-z-]+ :", calls, re.M)) != len(every):
+        found.append("PublicCall has other cases")
     print("\n".join(found + [f"outcomes: {len(every)} C functions, {len(found)} wrong"]))
     sys.exit(1 if found else 0)
 

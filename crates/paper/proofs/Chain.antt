@@ -80,7 +80,7 @@ module _ (g : Graph) (v : ValidGraph g) where
       clock-least g v s a (tally (λ k. eqb (g .actor k) a) (g .size))
       (λ k e q. subst (λ (x : ℕ). g .seq k ≤ tally (λ j. eqb (g .actor j) x) (g .size)) q (seq-le-count k (hist-known g v s k e)))
 
-  -- ---- 01's chained graphs are R-4's
+  -- ---- what is chained in the narrow sense is so in the wide one
 
   pub chained-old-new : ChainedOld g → Chained g
   unfolding ChainedOld Chained
@@ -286,7 +286,7 @@ module _ (g : Graph) (v : ValidGraph g) (c : Chained g) where
       ∙ sum-ext (λ a. tally (λ k. hist g s k && eqb (g .actor k) a) (g .size)) (clock g s) A
       (λ a l. count-top g v c (hist g s) (closed-hist g v s) a (g .size) (omega arith))
 
-  -- ---- R-12: the missing list can be sent from its start on: a dependency is had, or stands before in the list
+  -- ---- the missing list can be sent from its start on: a dependency is had, or stands before in the list
 
   pub missing-order : (s : List ℕ) (k j : ℕ) → mem k (missing g s) ≡ true → mem j (g .deps k) ≡ true → (hist g s j ≡ true) ⊎ ((j < k) × (mem j (missing g s) ≡ true))
   unfolding missing
@@ -296,7 +296,7 @@ module _ (g : Graph) (v : ValidGraph g) (c : Chained g) where
       by-bool (hist g s j) (λ t. inl t)
       (λ f. inr (lt, mem-pick (above g (clock g s)) (g .size) j (omega arith) (above-outside s j (omega arith) ∙ not-is (hist g s j) f)))
 
--- ---- R-13: joining and sharing distribute over each other
+-- ---- joining and sharing distribute over each other
 
 module _ (g : Graph) (v : ValidGraph g) where
   pub share-join : (s t u : List ℕ) (k : ℕ) → shared g s (t ++ u) k ≡ (shared g s t k || shared g s u k)

@@ -164,11 +164,11 @@ pub record Precedes (g : Graph) (j k : ℕ) : Type 0 where
   pub same : g .actor j ≡ g .actor k
   pub next : g .seq k ≡ suc (g .seq j)
 
--- 01: it is among k's own dependencies
+-- chained in the narrow sense, which `cg_chained` answers: it is among k's own dependencies
 unfoldable pub ChainedOld : Graph → Type 0
 ChainedOld g = (j k : ℕ) → Precedes g j k → mem j (g .deps k) ≡ true
 
--- R-4: it is in k's history
+-- chained in the wide sense, which the theorems stand on: it is in k's history
 unfoldable pub Chained : Graph → Type 0
 Chained g = (j k : ℕ) → Precedes g j k → hist g (k ∷ []) j ≡ true
 
