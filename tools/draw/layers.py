@@ -86,7 +86,7 @@ def band(d, group, place, shape, fill):
     x, y, w, h = place
     d.box(x, y, w, h, fill)
     d.text(x + 12, y + 22, group.name, 16, True)
-    at = x + 24 + wide(group.name, 16, True)
+    at = x + 30 + wide(group.name, 16, True)
     if at + wide(group.words, 12) < x + w:
         d.text(at, y + 22, group.words, 12, ink=SOFT)
     column = (w - 24) / shape[0]
