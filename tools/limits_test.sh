@@ -212,9 +212,11 @@ written "a list and an answer of 65,536 bytes" 65536 65536
 
 # ---- an answer that cannot be written: the program ends all the same
 
-status=0
-timeout 60 "${command[@]}" <"$list" >&- 2>"$room/said" || status=$?
-ended "standard output closed" "$status"
+if [ -z "$EMULATOR" ]; then # an emulator opens files of its own, in the place of what is closed
+  status=0
+  timeout 60 "${command[@]}" <"$list" >&- 2>"$room/said" || status=$?
+  ended "standard output closed" "$status"
+fi
 if [ -c /dev/full ]; then
   status=0
   timeout 60 "${command[@]}" <"$list" >/dev/full 2>"$room/said" || status=$?
@@ -244,9 +246,11 @@ judge "stopped while it writes" "$status"
 : >"$list"
 printf 'bad\t1\n' >"$answer"
 written "an empty list" 0 6
-status=0
-run <&- || status=$?
-judge "standard input closed" "$status"
+if [ -z "$EMULATOR" ]; then
+  status=0
+  run <&- || status=$?
+  judge "standard input closed" "$status"
+fi
 status=0
 run </ || status=$?
 judge "a folder as standard input" "$status"
