@@ -212,7 +212,7 @@ written "a list and an answer of 65,536 bytes" 65536 65536
 
 # ---- an answer that cannot be written: the program ends all the same
 
-if [ -z "$EMULATOR" ]; then # an emulator opens files of its own, in the place of what is closed
+if [ -z "$EMULATOR" ]; then # an emulator may open files of its own in the place of what is closed
   status=0
   timeout 60 "${command[@]}" <"$list" >&- 2>"$room/said" || status=$?
   ended "standard output closed" "$status"
