@@ -1,7 +1,7 @@
 /* How many bytes of a change list cg_session reads and answers in a second of processor time. Each list has three changes of two actors and then one kind of line up to about
  * 1 MiB, so that reading and answering is all the work; `add` lines are refused because the hash is known. Prints a line a kind. */
 #define _POSIX_C_SOURCE 199309L
-#include "../include/changegraph.h"
+#include "changegraph.h"
 
 #include <stdio.h>
 #include <string.h>
@@ -36,12 +36,12 @@ static int measure(const char *name, const char *lines) {
   while (at + strlen(lines) <= ROOM) {
     at = put(at, lines);
   }
-  size_t length = 0;
+  uint64_t length = 0;
   int rounds = 0;
   double start = seconds();
   double spent = 0;
   while (spent < 1) {
-    if (cg_session(input, at, answer, sizeof answer, &length) != CG_DONE) {
+    if (cg_session(input, at, answer, sizeof answer, &length, 1) != CG_DONE) {
       printf("%s: the answer does not fit\n", name);
       return 1;
     }

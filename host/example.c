@@ -1,98 +1,334 @@
-/* A hub in small: lends the tables, adds changes typed on three devices, asks for each tablet what it is missing, and shows what a refusal looks like.
+/* A hub in small. The first part is to be copied: devices that come, the way of a received change, tablets that ask. The second plays a morning with it, and the third shows every
+ * refusal by its words. It writes what host/example.out has.
  *
- *     host/archive.sh && cc host/example.c target/libchangegraph.a -o example && ./example
+ *     host/archive.sh && cc -Iinclude host/example.c target/libchangegraph.a -o example && ./example
  */
 #include <stdio.h>
 #include <string.h>
 
-#include "../include/changegraph.h"
+#include "changegraph_hub.h"
 
-/* The tables at the hub's room. They live in static memory: nothing is allocated. */
-static uint8_t hashes[CG_HASH * CG_HUB_CHANGES];
-static uint32_t nodes[CG_NODE * CG_HUB_CHANGES];
-static Edge edges[CG_HUB_EDGES];
-static uint32_t clocks[CG_HUB_CHANGES * CG_HUB_ACTORS];
-static uint32_t counts[CG_COUNTS];
-static uint8_t answer[sizeof hashes];
+/* ---- the hub
+ *
+ *   device -- receive --> batch -- hand over --> queue -- release --> add --> graph -- missing --> tablet
+ *                                                  ^                   |
+ *                                                  '---- waits on -----'
+ *
+ * A device keeps its change until the hub has said that it is added or waits; what is refused or was lost on the way it sends again. So nothing that is dropped here is lost, and
+ * whatever is sent twice is noticed. */
 
-/* Every call on the graph begins with its tables, each with its length in elements. */
-#define TABLES                                                                                                                                          \
-  hashes, sizeof hashes, nodes, sizeof nodes / sizeof *nodes, edges, sizeof edges / sizeof *edges, clocks, sizeof clocks / sizeof *clocks, counts, CG_COUNTS
+static cg_hub hub; /* all tables: below 2 MiB, nothing is allocated */
+static cg_keys keys;
+static cg_graph graph;
+static cg_queue queue, batch;
 
-/* In this example a hash is one letter 32 times; a real one comes with the change. */
-static const uint8_t *hash(char letter) {
-  static uint8_t h[8][CG_HASH];
-  static int next = 0;
-  next = (next + 1) % 8;
-  memset(h[next], letter, CG_HASH);
-  return h[next];
+/* Opening may meet any memory; static memory is open already. */
+static uint32_t open_hub(void) {
+  graph = cg_graph_of_hub(&hub);
+  queue = cg_queue_of_hub(&hub);
+  batch = cg_batch_of_hub(&hub);
+  keys.count = 0;
+  uint32_t number = cg_hub_open(&graph, 0);
+  number = number == CG_DONE ? cg_hub_queue_open(&queue) : number;
+  return number == CG_DONE ? cg_hub_queue_open(&batch) : number;
 }
 
-static void add(char letter, uint64_t device, uint64_t sequence, uint64_t max_op, const char *on) {
-  uint8_t dependencies[8 * CG_HASH] = {0};
+/* A device comes. Actors stand in the order of their keys, so that numbers past it move; changes that wait have keys, which do not. */
+static uint32_t device(uint64_t key) { return cg_put_key(&graph, &keys, cg_place_of(&keys, key), key); }
+
+static void say(const char *what, uint64_t key, const cg_change *change, uint32_t number) {
+  printf("  %s: %c, device %u, sequence %u: %s\n", what, change->hash[0], (unsigned)key, (unsigned)change->sequence, cg_text(number));
+}
+
+/* Whether the sequence is one that the device has still to come to. */
+static int still_to_come(uint64_t key, uint64_t sequence) {
+  uint64_t last = 0;
+  return cg_actor_of(&keys, key) != CG_NOBODY && cg_hub_seq_for_actor(&graph, cg_actor_of(&keys, key), &last) == CG_DONE && sequence > last + 1;
+}
+
+typedef struct Placed {
+  unsigned added, waiting;
+} Placed;
+
+/* Adds a change that is ready. By now the hub has it nowhere else, so what is not added waits on or is said to be refused. */
+static void place(uint64_t key, const cg_change *change, Placed *placed) {
   uint64_t unknown = 0;
-  size_t n = strlen(on);
-  for (size_t i = 0; i < n; i++) {
-    memset(dependencies + CG_HASH * i, on[i], CG_HASH);
+  uint32_t number = cg_hub_add(&graph, cg_actor_of(&keys, key), change, &unknown);
+  if (number == CG_DONE || number == CG_ALREADY_KNOWN) { /* known: accepted long ago */
+    placed->added++;
+    say("added", key, change, number);
+  } else if (number == CG_UNKNOWN_DEPENDENCY || (number == CG_WRONG_SEQUENCE && still_to_come(key, change->sequence))) {
+    /* The one before it is not there yet. Where there is no room to wait either, the device sends it again. */
+    uint32_t waits = cg_let_wait(&queue, key, change);
+    placed->waiting += waits == CG_DONE;
+    say(waits == CG_DONE ? "waits on" : "put off", key, change, number);
+    if (number == CG_UNKNOWN_DEPENDENCY) {
+      printf("    the first unknown one is %c\n", change->dependencies.hashes[CG_HASH * unknown]);
+    }
+  } else if (number == CG_NO_NODE_ROOM || number == CG_NO_EDGE_ROOM || number == CG_NOT_VALID) {
+    /* The record is full, or its tables were damaged (then the saved one is read): a person must act. */
+    say("STOP", key, change, number);
+  } else { /* the device has it wrong: nobody's, a sequence for the second time, ops that cannot be */
+    say("refused", key, change, number);
   }
-  uint32_t r = cg_add(TABLES, hash(letter), CG_HASH, device, sequence, max_op, 1, dependencies, CG_HASH * n, &unknown, 1);
-  printf("add %c, device %d, sequence %d, on \"%s\": %u", letter, (int)device, (int)sequence, on, (unsigned)r);
-  if (r == CG_UNKNOWN_DEPENDENCY) {
-    printf(" (%c is unknown)", on[unknown]);
+}
+
+/* Whether the queue has the change already, or another of the same device and sequence: then handing the batch over would be refused whole. */
+static uint32_t waits_already(uint64_t key, const cg_change *change) {
+  uint64_t yes = 0;
+  uint32_t number = cg_hub_queue_has_hash(&queue, change->hash, &yes);
+  if (number == CG_DONE && yes == 0) {
+    number = cg_hub_queue_has_actor_seq(&queue, key, change->sequence, &yes);
+  }
+  return number == CG_DONE && yes == 1 ? CG_ALREADY_WAITING : number;
+}
+
+/* A change comes in: into the batch, unless it is known or waits. CG_ALREADY_KNOWN, also where the batch has it, is no fault: it came twice. CG_ALREADY_WAITING is none for the
+ * same change; for another one of the same device and sequence it is the device's. With CG_NO_QUEUE_ROOM the batch is full: settle, and push again. */
+static uint32_t receive(uint64_t key, const cg_change *change) {
+  uint64_t yes = 0;
+  uint32_t number = cg_hub_has_change(&graph, change->hash, &yes);
+  if (number == CG_DONE && yes == 1) {
+    return CG_ALREADY_KNOWN;
+  }
+  if (number == CG_DONE) {
+    number = waits_already(key, change);
+  }
+  return number == CG_DONE ? cg_hub_batch_push(&batch, key, change) : number;
+}
+
+/* Places the first records of the batch's tables. */
+static Placed place_all(size_t records) {
+  Placed placed = {0, 0};
+  for (size_t i = 0; i < records; i++) {
+    cg_change change = cg_change_at(&batch, i);
+    place(cg_key_at(&batch, i), &change, &placed);
+  }
+  return placed;
+}
+
+/* Hands the batch over, releases what is ready and adds it. Where the queue has no room for the batch, its changes are added past the queue: one of them may be what the queue waits
+ * for. Released records are out of the queue and stand in the tables of the batch, which is empty by then. Release looks at dependencies alone, so a device's third may come before its
+ * second: then it waits on, and once others were added it is released again. */
+static uint32_t settle(void) {
+  uint32_t number = cg_hub_hand_over(&queue, &batch);
+  if (number == CG_NO_QUEUE_ROOM) {
+    printf("  hand over: %s\n", cg_text(number));
+    place_all(hub.batch.count[0]);
+    number = cg_hub_queue_open(&batch);
+  }
+  Placed placed = {1, 1};
+  while (number == CG_DONE && placed.added > 0 && placed.waiting > 0) {
+    uint64_t records = 0;
+    number = cg_hub_release(&graph, &queue, &batch, &records);
+    placed = place_all((size_t)records);
+  }
+  return number; /* here the record is saved: docs/SAVING.md */
+}
+
+/* What a tablet is missing, in the order in which it can take it. What came in is settled first; then the batch is empty, and the answer goes into its dependencies, which have room
+ * for the longest. */
+static uint32_t missing(cg_list have, cg_list *answer) {
+  uint32_t number = hub.batch.count[0] > 0 ? settle() : CG_DONE;
+  return number == CG_DONE ? cg_hub_missing(&graph, have, hub.batch.deps, sizeof hub.batch.deps, answer) : number;
+}
+
+/* Whether a tablet has seen a change: by the history itself, which is right on every graph. What lies in the history is removed from the list of that one hash. */
+static uint32_t seen(cg_list have, const uint8_t *hash, int *yes) {
+  uint64_t bytes = 0, known = 0;
+  uint8_t left[CG_HASH];
+  uint32_t number = cg_hub_has_change(&graph, hash, &known);
+  if (number == CG_DONE) {
+    number = cg_hub_remove_ancestors(&graph, cg_list_of(hash, 1), have, left, sizeof left, &bytes);
+  }
+  *yes = number == CG_DONE && known == 1 && bytes == 0;
+  return number;
+}
+
+/* ---- a morning. Here a hash is one letter 32 times; a real one comes with the change. */
+
+static uint8_t letters[2][CG_DEPENDENCIES * CG_HASH];
+
+static cg_list list(int room, const char *text) {
+  size_t n = strlen(text);
+  for (size_t i = 0; i < n; i++) {
+    memset(letters[room] + CG_HASH * i, text[i], CG_HASH);
+  }
+  return cg_list_of(letters[room], n);
+}
+
+static void comes(uint64_t key, char letter, uint64_t sequence, uint64_t max_op, const char *on) {
+  uint8_t hash[CG_HASH];
+  memset(hash, letter, CG_HASH);
+  cg_change change = {hash, sequence, max_op, 1, list(0, on)};
+  uint32_t number = receive(key, &change);
+  say("received", key, &change, number);
+}
+
+static void settled(void) {
+  uint32_t number = settle();
+  printf("  settled: %s; %u wait", cg_text(number), (unsigned)hub.queue.count[0]);
+  for (size_t i = 0; hub.queue.count[0] < 8 && i < hub.queue.count[0]; i++) {
+    printf(" %c", cg_change_at(&queue, i).hash[0]);
   }
   printf("\n");
 }
 
-/* What a tablet that has these changes is missing, in the order in which it can take them. */
-static void missing(const char *tablet, const char *has) {
-  uint8_t have[8 * CG_HASH] = {0};
-  uint64_t bytes = 0;
-  size_t n = strlen(has);
-  for (size_t i = 0; i < n; i++) {
-    memset(have + CG_HASH * i, has[i], CG_HASH);
-  }
-  uint32_t r = cg_missing(TABLES, have, CG_HASH * n, answer, sizeof answer, &bytes, 1);
-  const uint8_t *list = cg_missing_shown(hashes, answer, CG_HASH * n);
-  printf("%s has \"%s\": %u, missing \"", tablet, has, (unsigned)r);
-  for (uint64_t i = 0; r == CG_DONE && i < bytes; i += CG_HASH) {
-    printf("%c", list[i]);
+static void asks(const char *tablet, const char *has) {
+  cg_list answer = {NULL, 0};
+  uint32_t number = missing(list(0, has), &answer);
+  printf("  %s has \"%s\": %s, missing \"", tablet, has, cg_text(number));
+  for (size_t i = 0; i < answer.bytes; i += CG_HASH) {
+    printf("%c", answer.hashes[i]);
   }
   printf("\"\n");
 }
 
+static void has_seen(const char *has, char letter) {
+  int yes = 0;
+  char text[2] = {letter, 0};
+  uint32_t number = seen(list(0, has), list(1, text).hashes, &yes);
+  printf("  who has \"%s\" has seen %c: %s, %s\n", has, letter, cg_text(number), yes ? "yes" : "no");
+}
+
+static void show_keys(void) {
+  printf("  actors:");
+  for (uint64_t a = 0; a < keys.count; a++) {
+    printf(" %u is device %u;", (unsigned)a, (unsigned)keys.key[a]);
+  }
+  printf("\n");
+}
+
+static void morning(void) {
+  printf("open: %s\n", cg_text(open_hub()));
+  printf("device 500: %s\n", cg_text(device(500)));
+  printf("device 700: %s\n", cg_text(device(700)));
+  show_keys();
+
+  printf("changes come in any order, and twice\n");
+  comes(700, 'c', 2, 3, "b");
+  comes(700, 'b', 1, 2, "a");
+  comes(700, 'b', 1, 2, "a");
+  settled();
+  comes(700, 'b', 1, 2, "a");
+
+  printf("device 600 comes, and stands between the two: %s\n", cg_text(device(600)));
+  show_keys();
+
+  printf("what they wait for comes\n");
+  comes(500, 'a', 1, 1, "");
+  settled();
+  comes(500, 'a', 1, 1, "");
+  comes(600, 'd', 1, 4, "c");
+  comes(600, 'f', 3, 6, "d"); /* its third, before its second */
+  comes(500, 'g', 2, 7, "f");
+  comes(800, 'h', 1, 7, "d"); /* nobody has this key */
+  settled();
+  comes(600, 'e', 2, 5, "d");
+  settled();
+  comes(600, 'i', 2, 8, "d"); /* its second, for the second time */
+  settled();
+
+  printf("tablets ask\n");
+  asks("a new tablet", "");
+  asks("tablet 1", "b");
+  asks("tablet 2", "d");
+  has_seen("b", 'a');
+  has_seen("b", 'd');
+
+  cg_clock clock;
+  uint32_t number = cg_hub_clock_of(&graph, list(0, "d"), &clock);
+  printf("  clock of d: %s:", cg_text(number));
+  for (uint32_t a = 0; number == CG_DONE && a < clock.count; a++) {
+    printf(" device %u up to %u;", (unsigned)keys.key[a], (unsigned)clock.entries[a]);
+  }
+  printf("\n");
+}
+
+/* The queue is full of changes that wait for y, which does not come; z, which can be added, comes all the same. */
+static void full_queue(void) {
+  printf("a full queue\n");
+  uint8_t hash[CG_HASH];
+  cg_change change = {hash, 0, 0, 1, list(0, "y")};
+  for (uint32_t n = 0; n < CG_WAITING; n++) {
+    memset(hash, '*', CG_HASH);
+    memcpy(hash + 1, &n, sizeof n);
+    change.sequence = n + 3, change.max_op = n + 9;
+    uint32_t number = receive(500, &change);
+    if (number != CG_DONE) {
+      say("received", 500, &change, number);
+    }
+  }
+  settled();
+  comes(600, 'x', 5, 9, "y");
+  comes(600, 'z', 4, 8, "d");
+  settled();
+}
+
+/* ---- every number, by a call that answers it. Nothing that was lent has changed after any of them. */
+
+static void refused(const char *what, uint32_t number) { printf("  %2u %s: %s\n", (unsigned)number, what, cg_text(number)); }
+
+static uint32_t add(const cg_graph *g, uint64_t actor, char letter, uint64_t sequence, uint64_t max_op, uint64_t op_count, cg_list on) {
+  cg_change change = {list(1, (char[2]){letter, 0}).hashes, sequence, max_op, op_count, on};
+  return cg_hub_add(g, actor, &change, NULL);
+}
+
+static void refusals_of_add(void) {
+  uint8_t many[CG_HASH * (CG_DEPENDENCIES + 1)];
+  memset(many, 'a', sizeof many);
+  cg_list none = cg_list_of(NULL, 0), too_many = {many, sizeof many}, bytes = {many, 31};
+  refused("a list of dependencies of 31 bytes", add(&graph, 0, 'h', 2, 9, 1, bytes));
+  refused("a change that is known", add(&graph, 0, 'a', 1, 1, 1, none));
+  refused("a change on one that is not", add(&graph, 0, 'h', 2, 9, 1, list(0, "ay")));
+  refused("a change of nobody", add(&graph, 64, 'h', 1, 9, 1, none));
+  refused("a sequence left out", add(&graph, 0, 'h', 4, 9, 1, none));
+  refused("more ops than the max op", add(&graph, 0, 'h', 3, 9, 10, none));
+  refused("33 dependencies", add(&graph, 0, 'h', 3, 9, 1, too_many));
+
+  /* A graph of other room: the same struct, over its own tables. Here 1 change, no edge, 1 actor. */
+  uint8_t hashes[CG_HASH];
+  uint32_t nodes[CG_NODE], clocks[1], counts[CG_COUNTS];
+  cg_graph small = {hashes, sizeof hashes, nodes, CG_NODE, NULL, 0, clocks, 1, counts, CG_COUNTS};
+  refused("a small graph opened", cg_hub_open(&small, 1));
+  refused("its only change", add(&small, 0, 'a', 1, 1, 1, none));
+  refused("a second one", add(&small, 0, 'b', 2, 2, 1, list(0, "a")));
+  cg_edge edges[1];
+  uint8_t two_hashes[2 * CG_HASH];
+  uint32_t two_nodes[2 * CG_NODE], two_clocks[2];
+  small = (cg_graph){two_hashes, sizeof two_hashes, two_nodes, 2 * CG_NODE, edges, 1, two_clocks, 2, counts, CG_COUNTS};
+  refused("room for 2 changes, 1 edge", cg_hub_open(&small, 1));
+  refused("the first", add(&small, 0, 'a', 1, 1, 1, none));
+  refused("the second, twice on the first", add(&small, 0, 'b', 2, 2, 1, list(0, "aa")));
+}
+
+static void refusals(void) {
+  uint8_t hash[CG_HASH], little[CG_HASH - 1];
+  uint64_t one[1] = {1};
+  cg_change change = {list(0, "y").hashes, 9, 9, 1, {NULL, 0}};
+  refused("device 500 taken away", cg_take_key(&graph, &keys, 0));
+  refused("an actor put in at place 9", cg_hub_insert_actor(&graph, 9));
+  refused("the hash of change 4000", cg_hub_index_to_hash(&graph, 4000, hash));
+  refused("the owner of op 999", cg_hub_owner(&graph, 0, 999, hash));
+  refused("heads into 31 bytes", cg_hub_heads(&graph, little, sizeof little, NULL));
+  refused("y pushed", cg_hub_batch_push(&batch, 500, &change));
+  change.hash = list(0, "x").hashes;
+  refused("x pushed, of y's device and sequence", cg_hub_batch_push(&batch, 500, &change));
+  refused("the batch opened again", cg_hub_queue_open(&batch));
+  uint32_t count[1] = {0};
+  cg_queue none = {NULL, 0, NULL, 0, NULL, 0, count, 1};
+  refused("a push to a batch without room", cg_hub_batch_push(&none, 500, &change));
+  cg_columns columns = {hash, CG_HASH, one, 1, one, 1, one, 1, one, 1, one, 1, NULL, 0, {NULL, 0}, 1};
+  refused("columns that name no such actor", cg_hub_load(&graph, &columns));
+  hub.nodes[1] = 7; /* a sequence that is wrong: the next call finds it, and so does every later one */
+  refused("a damaged table", cg_hub_len(&graph, NULL));
+}
+
 int main(void) {
-  printf("open for 3 devices: %u\n", (unsigned)cg_open(TABLES, 3));
-  add('a', 0, 1, 1, "");
-  add('b', 1, 1, 2, "a");
-  add('c', 2, 1, 2, "a");
-  add('d', 1, 2, 3, "bc");
-
-  missing("a new tablet", "");
-  missing("tablet 1", "b");
-  missing("tablet 2", "c");
-  missing("tablet 3", "d");
-
-  uint32_t entries[CG_HUB_ACTORS];
-  uint64_t told = 0;
-  uint32_t r = cg_clock_of(TABLES, hash('d'), CG_HASH, entries, CG_HUB_ACTORS, &told, 1);
-  printf("clock of d: %u, %u entries: %u,%u,%u\n", (unsigned)r, (unsigned)told, entries[0], entries[1], entries[2]);
-
-  /* Refused: the number says why, and no byte of the tables has changed. */
-  add('d', 1, 2, 3, "bc");
-  add('e', 0, 2, 4, "dz");
-  add('e', 3, 1, 4, "d");
-  add('e', 0, 3, 4, "d");
-  add('e', 0, 2, 0, "d");
-  r = cg_missing(TABLES, hash('b'), CG_HASH, answer, 2 * CG_HASH - 1, &told, 1);
-  printf("tablet 1 with a buffer one byte short: %u\n", (unsigned)r);
-  r = cg_missing(TABLES, hash('b'), CG_HASH - 1, answer, sizeof answer, &told, 1);
-  printf("a have-list of 31 bytes: %u\n", (unsigned)r);
-  r = cg_owner(TABLES, 0, 9, answer, CG_HASH, &told, 1);
-  printf("owner of device 0, counter 9: %u\n", (unsigned)r);
-  r = cg_remove_actor(TABLES, 1);
-  printf("device 1 taken away: %u\n", (unsigned)r);
-  nodes[1] = 7; /* a sequence that is wrong */
-  r = cg_missing(TABLES, hash('b'), CG_HASH, answer, sizeof answer, &told, 1);
-  printf("with a damaged table: %u\n", (unsigned)r);
+  morning();
+  full_queue();
+  printf("every number\n");
+  refusals_of_add();
+  refusals();
   return 0;
 }

@@ -5,7 +5,7 @@
 
 #include "reasons.h"
 
-#include "../include/changegraph.h"
+#include "changegraph.h"
 
 /* What the numbers mean that `add` and `owner` answer with in a session; no others occur. */
 static const char *const meanings[] = {

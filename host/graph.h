@@ -4,13 +4,13 @@
 
 #include "guarded.h"
 
-#include "../include/changegraph.h"
+#include "changegraph.h"
 
 typedef struct Graph {
   size_t changes, edge_room, actors;
   uint8_t *hashes;
   uint32_t *nodes;
-  Edge *edges;
+  cg_edge *edges;
   uint32_t *clocks;
   uint32_t *counts;
 } Graph;
@@ -19,7 +19,7 @@ static inline Graph graph_of(size_t changes, size_t edge_room, size_t actors, in
   Graph g = {changes, edge_room, actors, NULL, NULL, NULL, NULL, NULL};
   g.hashes = guarded(32 * changes, fill);
   g.nodes = guarded(6 * 4 * changes, fill);
-  g.edges = guarded(sizeof(Edge) * edge_room, fill);
+  g.edges = guarded(sizeof(cg_edge) * edge_room, fill);
   g.clocks = guarded(4 * changes * actors, fill);
   g.counts = guarded(12, fill);
   return g;
@@ -30,7 +30,7 @@ static inline Graph graph_of(size_t changes, size_t edge_room, size_t actors, in
 
 /* A copy of all bytes of the tables, to be compared afterwards. */
 static inline uint8_t *graph_copy(const Graph *g, size_t *size) {
-  size_t parts[5] = {32 * g->changes, 24 * g->changes, sizeof(Edge) * g->edge_room, 4 * g->changes * g->actors, 12};
+  size_t parts[5] = {32 * g->changes, 24 * g->changes, sizeof(cg_edge) * g->edge_room, 4 * g->changes * g->actors, 12};
   const void *from[5] = {g->hashes, g->nodes, g->edges, g->clocks, g->counts};
   *size = parts[0] + parts[1] + parts[2] + parts[3] + parts[4];
   uint8_t *copy = malloc(*size);
@@ -110,7 +110,7 @@ static inline void line_of(Graph *g, uint32_t n) {
     uint32_t node[6] = {k % 64, k / 64 + 1, k + 1, 1, k > 0 ? k : 0, k + 1 == n};
     memcpy(g->nodes + 6 * k, node, sizeof node);
     if (k > 0) {
-      g->edges[k - 1] = (Edge){k - 1, 0};
+      g->edges[k - 1] = (cg_edge){k - 1, 0};
     }
   }
   g->counts[0] = n;

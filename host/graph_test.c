@@ -178,17 +178,18 @@ static void caching(void) {
 }
 
 static void clocks(void) {
-  Clock a = {{1, 5, 0}, 3}, b = {{3, 4, 2}, 3}, bad = {{0}, 65}, two = {{1, 1}, 2};
-  uint32_t told = 7;
-  expect(cg_clock_include(&a, 2, 0, &told) == CG_DONE && told == 1 && a.entries[2] == 0, "0 over nothing answers yes and is nothing");
-  expect(cg_clock_include(&a, 1, 5, &told) == CG_DONE && told == 0, "an equal sequence does not rise");
+  cg_clock a = {{1, 5, 0}, 3}, b = {{3, 4, 2}, 3}, bad = {{0}, 65}, two = {{1, 1}, 2};
+  uint64_t told = 7;
+  expect(cg_clock_include(&a, 2, 0, &told, 1) == CG_DONE && told == 1 && a.entries[2] == 0, "0 over nothing answers yes and is nothing");
+  expect(cg_clock_include(&a, 1, 5, &told, 1) == CG_DONE && told == 0, "an equal sequence does not rise");
   told = 7;
-  expect(cg_clock_include(&a, 3, 5, &told) == CG_NO_ACTOR && told == 7, "a place not below the count");
-  expect(cg_clock_include(&bad, 0, 5, &told) == CG_NOT_VALID && told == 7, "a count above 64");
-  expect(cg_clock_covers(&a, &b, &told) == CG_DONE && told == 0, "neither covers the other");
+  expect(cg_clock_include(&a, 3, 5, &told, 1) == CG_NO_ACTOR && told == 7, "a place not below the count");
+  expect(cg_clock_include(&bad, 0, 5, &told, 1) == CG_NOT_VALID && told == 7, "a count above 64");
+  expect(cg_clock_covers(&a, &b, &told, 1) == CG_DONE && told == 0, "neither covers the other");
   expect(cg_clock_merge(&a, &b) == CG_DONE && a.entries[0] == 3 && a.entries[1] == 5 && a.entries[2] == 2, "joined entry by entry");
-  expect(cg_clock_covers(&a, &b, &told) == CG_DONE && told == 1, "the join covers");
-  expect(cg_clock_covers(&a, &two, &told) == CG_NOT_VALID, "different lengths");
+  expect(cg_clock_covers(&a, &b, &told, 1) == CG_DONE && told == 1, "the join covers");
+  told = 7;
+  expect(cg_clock_covers(&a, &two, &told, 1) == CG_NOT_VALID && told == 7, "different lengths");
   expect(cg_clock_merge(&two, &a) == CG_DONE && two.entries[1] == 5 && two.count == 2, "places that both have");
   expect(cg_clock_isolate(&a, 1) == CG_DONE && a.entries[1] == 4294967295u && a.entries[0] == 3, "isolated");
   expect(cg_clock_isolate(&a, 3) == CG_NO_ACTOR, "isolated nowhere");

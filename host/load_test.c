@@ -145,7 +145,7 @@ static void lengths(void) {
       size_t n[5];
       memcpy(n, right, sizeof n);
       n[t] += (size_t)more;
-      size_t bytes[5] = {n[0], 4 * n[1], sizeof(Edge) * n[2], 4 * n[3], 4 * n[4]};
+      size_t bytes[5] = {n[0], 4 * n[1], sizeof(cg_edge) * n[2], 4 * n[3], 4 * n[4]};
       void *at[5];
       uint8_t *before[5];
       for (int i = 0; i < 5; i++) {

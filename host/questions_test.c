@@ -18,7 +18,7 @@ typedef struct Lent {
   size_t hashes_len;
   uint32_t *nodes;
   size_t nodes_len;
-  Edge *edges;
+  cg_edge *edges;
   size_t edges_len;
   uint32_t *clocks;
   size_t clocks_len;
@@ -33,12 +33,12 @@ static Lent lent_of(const Graph *g) {
 }
 
 static size_t size_of(const Lent *t) {
-  return t->hashes_len + 4 * t->nodes_len + sizeof(Edge) * t->edges_len + 4 * t->clocks_len + 4 * t->counts_len;
+  return t->hashes_len + 4 * t->nodes_len + sizeof(cg_edge) * t->edges_len + 4 * t->clocks_len + 4 * t->counts_len;
 }
 
 static uint8_t *copy_of(const Lent *t) {
   const void *from[5] = {t->hashes, t->nodes, t->edges, t->clocks, t->counts};
-  size_t parts[5] = {t->hashes_len, 4 * t->nodes_len, sizeof(Edge) * t->edges_len, 4 * t->clocks_len, 4 * t->counts_len};
+  size_t parts[5] = {t->hashes_len, 4 * t->nodes_len, sizeof(cg_edge) * t->edges_len, 4 * t->clocks_len, 4 * t->counts_len};
   uint8_t *copy = malloc(size_of(t) + 1);
   size_t at = 0;
   for (int i = 0; i < 5; i++) {
@@ -212,7 +212,7 @@ static void lengths(void) {
   Graph g = worked();
   Lent t = lent_of(&g);
   size_t right[5] = {t.hashes_len, t.nodes_len, t.edges_len, t.clocks_len, t.counts_len};
-  size_t element[5] = {1, 4, sizeof(Edge), 4, 4};
+  size_t element[5] = {1, 4, sizeof(cg_edge), 4, 4};
   const void *from[5] = {g.hashes, g.nodes, g.edges, g.clocks, g.counts};
   for (int table = 0; table < 5; table++) {
     for (int step = -1; step <= 1; step += 2) {

@@ -263,9 +263,9 @@ static void releasing(void) {
       }
       uint8_t *hashes = guarded(n[0], 0);
       uint32_t *nodes = guarded(4 * n[1], 0), *clocks = guarded(4 * n[3], 0), *counts = guarded(4 * n[4], 0);
-      Edge *edges = guarded(sizeof(Edge) * n[2], 0);
+      cg_edge *edges = guarded(sizeof(cg_edge) * n[2], 0);
       expect(cg_release(hashes, n[0], nodes, n[1], edges, n[2], clocks, n[3], counts, n[4], QUEUE(&q), ANSWER(&to), told, 1) == CG_NOT_VALID && told[0] == UNTOLD, "a graph's length that disagrees");
-      unguard(hashes, n[0]), unguard(nodes, 4 * n[1]), unguard(edges, sizeof(Edge) * n[2]), unguard(clocks, 4 * n[3]), unguard(counts, 4 * n[4]);
+      unguard(hashes, n[0]), unguard(nodes, 4 * n[1]), unguard(edges, sizeof(cg_edge) * n[2]), unguard(clocks, 4 * n[3]), unguard(counts, 4 * n[4]);
     }
   }
   expect(queue_same(&q, before) && queue_same(&to, answer), "a graph that is not valid leaves queue and answer");

@@ -7,7 +7,7 @@
 #include "check.h"
 #include "reasons.h"
 
-#include "../include/changegraph.h"
+#include "changegraph.h"
 
 enum { ROOM = 1 << 16, RANDOM_LISTS = 100000 };
 
@@ -24,8 +24,8 @@ static size_t met[REASONS];
 
 /* The number in the answer's last line where that is `bad`, else 0. */
 static size_t session_says(Text list) {
-  size_t length = 0;
-  expect(cg_session(list.bytes, list.length, answer, sizeof answer - 1, &length) == CG_DONE, "the answer fits");
+  uint64_t length = 0;
+  expect(cg_session(list.bytes, list.length, answer, sizeof answer - 1, &length, 1) == CG_DONE, "the answer fits");
   size_t start = length;
   while (start > 0 && (start == length || answer[start - 1] != '\n')) {
     start--;

@@ -4,7 +4,7 @@
 #include "explain.h"
 #include "reasons.h"
 
-#include "../include/changegraph.h"
+#include "changegraph.h"
 
 #include <errno.h>
 #include <stdio.h>
@@ -142,8 +142,8 @@ static int answer_list(const Options *options) {
   if (!read_list(options->file, name, &read)) {
     return NO_ANSWER;
   }
-  size_t length = 0;
-  if (cg_session(list, read, answer, sizeof answer, &length) != CG_DONE) {
+  uint64_t length = 0;
+  if (cg_session(list, read, answer, sizeof answer, &length, 1) != CG_DONE) {
     fprintf(stderr, "%s: the answer is longer than 16,777,216 bytes, which is the room for an answer; ask fewer questions at a time\n", name);
     return NO_ANSWER;
   }

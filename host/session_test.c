@@ -5,7 +5,7 @@
 
 #include "check.h"
 
-#include "../include/changegraph.h"
+#include "changegraph.h"
 
 static int all(const uint8_t *bytes, size_t size, uint8_t value) {
   for (size_t i = 0; i < size; i++) {
@@ -21,15 +21,16 @@ static void run(const char *what, const char *list, size_t list_len, size_t room
   uint8_t *input = guarded(list_len, 0);
   memcpy(input, list, list_len);
   uint8_t *answer = guarded(room, 0xEE);
-  size_t length = 12345;
-  uint32_t got = cg_session(input, list_len, answer, room, &length);
+  uint64_t told[2] = {12345, 67890};
+  uint32_t got = cg_session(input, list_len, answer, room, told, 1);
   expect(got == number, what);
   expect(memcmp(input, list, list_len) == 0, what);
   if (number == CG_DONE) {
-    expect(length == want_len && memcmp(answer, want, want_len) == 0 && all(answer + want_len, room - want_len, 0xEE), what);
+    expect(told[0] == want_len && memcmp(answer, want, want_len) == 0 && all(answer + want_len, room - want_len, 0xEE), what);
   } else {
-    expect(length == 0 && all(answer, room, 0), what);
+    expect(told[0] == 0 && all(answer, room, 0), what);
   }
+  expect(told[1] == 67890, what);
   unguard(input, list_len);
   unguard(answer, room);
 }

@@ -15,4 +15,4 @@ else
   RUN="$EMULATOR -L /usr/x86_64-linux-gnu"
   need "$CC" gcc-x86-64-linux-gnu libc6-dev-amd64-cross || CC=""
 fi
-CFLAGS="-std=c11 -O2 -g -Wall -Wextra -Werror"
+CFLAGS="-std=c11 -O2 -g -Wall -Wextra -Werror -Iinclude"

@@ -10,7 +10,7 @@
 #include <stdlib.h>
 #include <string.h>
 
-#include "../include/changegraph.h"
+#include "changegraph_hub.h"
 
 enum { FIELDS = 16, HASHES = 4200, NUMBERS = 20000, LINE = 1 << 21, TEXT = 1 << 20 };
 
@@ -24,7 +24,7 @@ typedef struct Block {
 static size_t N, E, A, Q;
 static uint8_t *hashes;
 static uint32_t *nodes;
-static Edge *edges;
+static cg_edge *edges;
 static uint32_t *clocks;
 static uint32_t *counts;
 
@@ -532,9 +532,9 @@ static int question(void) {
 
 /* ---- clocks, in lines of their own */
 
-static Clock clock_of(const char *s) {
+static cg_clock clock_of(const char *s) {
   static uint64_t v[NUMBERS];
-  Clock c;
+  cg_clock c;
   memset(&c, 0, sizeof c);
   c.count = (uint32_t)numbers_of(s, v);
   for (uint32_t i = 0; i < c.count; i++) {
@@ -544,7 +544,7 @@ static Clock clock_of(const char *s) {
 }
 
 /* none, cur:CLOCK or diff:CLOCK:CLOCK: the kind, and two clocks */
-static uint32_t range_of(const char *s, Clock *before, Clock *now) {
+static uint32_t range_of(const char *s, cg_clock *before, cg_clock *now) {
   memset(before, 0, sizeof *before);
   memset(now, 0, sizeof *now);
   if (strncmp(s, "cur:", 4) == 0) {
@@ -559,7 +559,7 @@ static uint32_t range_of(const char *s, Clock *before, Clock *now) {
   return 0;
 }
 
-static void say_clock(uint32_t r, const Clock *c) {
+static void say_clock(uint32_t r, const cg_clock *c) {
   if (r != 0) {
     say(r);
   } else {
@@ -568,51 +568,46 @@ static void say_clock(uint32_t r, const Clock *c) {
 }
 
 static int of_clock(void) {
-  uint32_t yes = 77;
   if (is("sinclude", 3)) {
-    Clock c = clock_of(field[1]);
-    uint32_t r = cg_clock_include(&c, number_of(field[2]), (uint32_t)number_of(field[3]), &yes);
+    cg_clock c = clock_of(field[1]);
+    uint32_t r = cg_hub_clock_include(&c, number_of(field[2]), (uint32_t)number_of(field[3]), told);
     if (r == 0) {
-      put(yes ? "yes " : "no ");
+      put(told[0] ? "yes " : "no ");
     }
     say_clock(r, &c);
   } else if (is("smerge", 2)) {
-    Clock c = clock_of(field[1]), d = clock_of(field[2]);
-    uint32_t r = cg_clock_merge(&c, &d);
+    cg_clock c = clock_of(field[1]), d = clock_of(field[2]);
+    uint32_t r = cg_hub_clock_merge(&c, &d);
     say_clock(r, &c);
   } else if (is("scovers", 2)) {
-    Clock c = clock_of(field[1]), d = clock_of(field[2]);
-    uint32_t r = cg_clock_covers(&c, &d, &yes);
-    told[0] = yes;
-    say_yes(r);
+    cg_clock c = clock_of(field[1]), d = clock_of(field[2]);
+    say_yes(cg_hub_clock_covers(&c, &d, told));
   } else if (is("sget", 2)) {
-    Clock c = clock_of(field[1]);
-    say_told(cg_clock_get(c.entries, 64, c.count, number_of(field[2]), told, 1));
+    cg_clock c = clock_of(field[1]);
+    say_told(cg_hub_clock_get(&c, number_of(field[2]), told));
   } else if (is("sinsert", 2)) {
-    Clock c = clock_of(field[1]);
-    uint32_t r = cg_clock_rewrite_with_new_actor(c.entries, 64, c.count, number_of(field[2]));
-    c.count += r == 0;
+    cg_clock c = clock_of(field[1]);
+    uint32_t r = cg_hub_clock_rewrite_with_new_actor(&c, number_of(field[2]));
     say_clock(r, &c);
   } else if (is("sremove", 2)) {
-    Clock c = clock_of(field[1]);
-    uint32_t r = cg_clock_remove_actor(c.entries, 64, c.count, number_of(field[2]));
-    c.count -= r == 0;
+    cg_clock c = clock_of(field[1]);
+    uint32_t r = cg_hub_clock_remove_actor(&c, number_of(field[2]));
     say_clock(r, &c);
   } else if (is("oisolate", 2)) {
-    Clock c = clock_of(field[1]);
-    uint32_t r = cg_clock_isolate(&c, number_of(field[2]));
+    cg_clock c = clock_of(field[1]);
+    uint32_t r = cg_hub_clock_isolate(&c, number_of(field[2]));
     say_clock(r, &c);
   } else if (is("ocovers", 3)) {
-    Clock c = clock_of(field[1]);
-    say_yes(cg_clock_op_covers(c.entries, 64, c.count, number_of(field[2]), number_of(field[3]), told, 1));
+    cg_clock c = clock_of(field[1]);
+    say_yes(cg_hub_clock_op_covers(&c, number_of(field[2]), number_of(field[3]), told));
   } else if (is("rvisafter", 3) || is("rvisbefore", 3) || is("rpredates", 3)) {
-    Clock before, now;
+    cg_clock before, now;
     uint32_t kind = range_of(field[1], &before, &now);
     uint64_t a = number_of(field[2]), c = number_of(field[3]);
     if (strcmp(field[0], "rvisafter") == 0) {
-      say_yes(cg_clock_visible_after(kind, before.entries, 64, before.count, now.entries, 64, now.count, a, c, told, 1));
+      say_yes(cg_hub_clock_visible_after(kind, &before, &now, a, c, told));
     } else {
-      say_yes(cg_clock_visible_before(kind, before.entries, 64, before.count, now.entries, 64, now.count, a, c, told, 1));
+      say_yes(cg_hub_clock_visible_before(kind, &before, &now, a, c, told));
     }
   } else {
     return 0;
@@ -673,7 +668,7 @@ int main(int argc, char **argv) {
     return 2;
   }
   N = strtoull(argv[1], NULL, 10), E = strtoull(argv[2], NULL, 10), A = strtoull(argv[3], NULL, 10), Q = strtoull(argv[4], NULL, 10);
-  hashes = lend(32 * N), nodes = lend(24 * N), edges = lend(sizeof(Edge) * E), clocks = lend(4 * N * A), counts = lend(12);
+  hashes = lend(32 * N), nodes = lend(24 * N), edges = lend(sizeof(cg_edge) * E), clocks = lend(4 * N * A), counts = lend(12);
   queue = lend_waiting(), batch = lend_waiting(), given = lend_waiting();
   char *line = malloc(LINE);
   while (fgets(line, LINE, stdin) != NULL) {

@@ -13,9 +13,9 @@ fn respond(input: &[u8], answer: &mut [u8]) -> usize
     if 65536 < input.len() {
         return 0;
     }
-    let mut size: usize = 0;
-    session::cg_session(input, answer, &mut size);
-    size
+    let mut told = [0u64; 1];
+    session::cg_session(input, answer, &mut told);
+    told[0] as usize
 }
 
 // Writes the answer.

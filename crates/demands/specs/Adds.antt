@@ -18,7 +18,7 @@ pub record KnownChange (g : Graph) (x : Change) : Type 0 where
   pub deps-whole : length (x .deps) % 32 ≡ 0
   pub known : node g (x .hash) < g .size
 
--- the place, which held l, holds l′: the one lent memory beside the text answer that a refusal writes
+-- the place, which held l, holds l′: the one lent memory beside the text answer and its length that a refusal writes
 pub record AddLeaves (x : Change) (l l′ : List ℕ) (t : Tables) (r : ℕ) (t′ : Tables) : Type 0 where
   pub tables-kept : NotDone r → t′ ≡ t
   pub place-kept : (r ≡ number unknown-dependency → ⊥) → l′ ≡ l

@@ -83,13 +83,13 @@ demand-1 (cg-clock-rewrite-with-new-actor c n k r c′ p) = slice-changed-demand
 demand-1 (cg-clock-remove-actor c n k r c′ p) = slice-changed-demand (removeTold c n k) c r c′ (remove-keeps c n k) p
 demand-1 (cg-clock-visible-after kind b n c m a k told r told′ p) = slice-asked-demand (afterTold (rangeOf kind) b n c m a k) told r told′ p
 demand-1 (cg-clock-visible-before kind b n c m a k told r told′ p) = slice-asked-demand (beforeTold (rangeOf kind) b n c m a k) told r told′ p
-demand-1 (cg-session input out r size′ out′ p) = session-demand input out r size′ out′ p
+demand-1 (cg-session input out told r out′ told′ p) = session-demand input out told r out′ told′ p
 
--- the one text answer: where the number is not that of done it does not fit, and is zeroed
-pub text-answer : (input out : List ℕ) (r size′ : ℕ) (out′ : List ℕ) → SessionAnswered input out r size′ out′ → NotDone r → TextZeroed out r size′ out′
+-- the one text answer: where the number is not that of done it does not fit, it is zeroed, and its length is told as 0
+pub text-answer : (input out told : List ℕ) (r : ℕ) (out′ told′ : List ℕ) → SessionAnswered input out told r out′ told′ → NotDone r → TextZeroed out told r out′ told′
 text-answer = text-zeroed
 
--- the one place that a refusal tells: that of the unknown dependency
+-- the one place beside that of the text answer's length that a refusal tells: that of the unknown dependency
 pub unknown-place : (x : Change) (l l′ : List ℕ) (t : Tables) (r : ℕ) (t′ : Tables) → Added x l l′ t r t′ → AddLeaves x l l′ t r t′
 unknown-place = add-leaves
 

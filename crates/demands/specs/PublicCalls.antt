@@ -1,6 +1,6 @@
 -- A call of each function that C calls: its promise as it stands, its number, and the memory that it may change, before and after. What is lent to be read cannot change.
 -- Two things are left out of that memory, since a refusal writes them: the place in which `cg_add` tells the unknown dependency (Adds.antt), and the text answer of
--- `cg_session` with its length (Session.antt).
+-- `cg_session` with the place for its length (Session.antt).
 -- Assumes nothing.
 use mathlib.Core.List.{List, [], _∷_}
 use Prim.Native.Nat.{ℕ}
@@ -87,4 +87,4 @@ pub data PublicCall : ℕ → List (List ℕ) → List (List ℕ) → Type 0 whe
   cg-clock-visible-after : (kind : ℕ) (b : List ℕ) (n : ℕ) (c : List ℕ) (m actor counter : ℕ) (told : List ℕ) (r : ℕ) (told′ : List ℕ) → SliceAsked (afterTold (rangeOf kind) b n c m actor counter) told r told′ → PublicCall r (told ∷ []) (told′ ∷ [])
   cg-clock-visible-before : (kind : ℕ) (b : List ℕ) (n : ℕ) (c : List ℕ) (m actor counter : ℕ) (told : List ℕ) (r : ℕ) (told′ : List ℕ) → SliceAsked (beforeTold (rangeOf kind) b n c m actor counter) told r told′ → PublicCall r (told ∷ []) (told′ ∷ [])
   -- the text session: no table, queue or clock
-  cg-session : (input out : List ℕ) (r size′ : ℕ) (out′ : List ℕ) → SessionAnswered input out r size′ out′ → PublicCall r [] []
+  cg-session : (input out told : List ℕ) (r : ℕ) (out′ told′ : List ℕ) → SessionAnswered input out told r out′ told′ → PublicCall r [] []

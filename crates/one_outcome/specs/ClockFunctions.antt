@@ -6,6 +6,7 @@ use mathlib.Core.List.{List}
 use Prim.Native.Nat.{ℕ}
 use lib.ListN.{length}
 use Rattle.paper.specs.Session.{session, numberIn, lengthIn, bufferIn}
+use Rattle.lent_place.specs.Places.{toldIn}
 use Rattle.clock_checked.specs.Told.{getTold, opTold, insertTold, removeTold, afterTold, beforeTold}
 use Rattle.hub_clock_slices.specs.Face.{SliceAsked, SliceGave, SliceChanged, rangeOf}
 use Rattle.clock_struct.specs.Clocks.{ClockIncluded, ClockMerged, ClockIsolated, ClockCovered}
@@ -71,8 +72,8 @@ cg-clock-covers-once a b covered r′ covered′ r″ covered″ p q = struct-as
 
 -- ---- the session
 
-pub cg-session-once : (input answer : List ℕ) (r′ : ℕ) (answer′ : List ℕ) (size′ r″ : ℕ) (answer″ : List ℕ) (size″ : ℕ)
-    → r′ ≡ numberIn (session input) (length answer) → size′ ≡ lengthIn (session input) (length answer) → answer′ ≡ bufferIn (session input) answer
-    → r″ ≡ numberIn (session input) (length answer) → size″ ≡ lengthIn (session input) (length answer) → answer″ ≡ bufferIn (session input) answer
-    → (r′ ≡ r″) × (answer′ ≡ answer″) × (size′ ≡ size″)
-cg-session-once input answer r′ answer′ size′ r″ answer″ size″ p l b q m c = (settled p q, settled b c, settled l m)
+pub cg-session-once : (input answer told : List ℕ) (r′ : ℕ) (answer′ told′ : List ℕ) (r″ : ℕ) (answer″ told″ : List ℕ)
+    → r′ ≡ numberIn (session input) (length answer) → told′ ≡ toldIn (lengthIn (session input) (length answer)) told → answer′ ≡ bufferIn (session input) answer
+    → r″ ≡ numberIn (session input) (length answer) → told″ ≡ toldIn (lengthIn (session input) (length answer)) told → answer″ ≡ bufferIn (session input) answer
+    → (r′ ≡ r″) × (answer′ ≡ answer″) × (told′ ≡ told″)
+cg-session-once input answer told r′ answer′ told′ r″ answer″ told″ p l b q m c = (settled p q, settled b c, settled l m)

@@ -1,4 +1,4 @@
--- The answer buffer of a whole session: its number, its length, and what stands in it.
+-- The answer buffer of a whole session: its number, its length as it is told, and what stands in it.
 -- Assumes nothing.
 use mathlib.Core.Path.{_≡_, refl, sym, ap, _∙_}
 use mathlib.Core.List.{List, [], _∷_, _++_}
@@ -14,6 +14,7 @@ use Rattle.print.specs.Print.{putAnswer}
 use Rattle.print.specs.declared.Put.{Put}
 use Rattle.print.specs.declared.Put.the-variants.{Next, Full}
 use Rattle.reply.specs.Said.{Said}
+use Rattle.lent_place.specs.Places.{toldIn}
 use Rattle.session.specs.AskLaws.{put-next, put-full}
 use Rattle.session.specs.Final.{fitted, sizeOf}
 
@@ -51,15 +52,15 @@ module _ (text out₀ out₁ : List ℕ) where
     unfolding bufferIn
     full-buffer = rw (lt-leb (length text) (length out₀) long, w .size)
 
--- ---- the number, the length and the buffer, by whether it fitted
+-- ---- the number, the told length and the buffer, by whether it fitted
 
-module _ (text out₀ out₁ : List ℕ) where
-  pub final-done : (r : Put) (n : ℕ) → Said text 0 r out₀ out₁ → n ≡ sizeOf r → true ≡ fitted r
-      → (0 ≡ numberIn text (length out₀)) × ((n ≡ lengthIn text (length out₀)) × (out₁ ≡ bufferIn text out₀))
-  final-done (Next m) n w e f = (done-number text out₀ out₁ m w, (e ∙ done-length text out₀ out₁ m w, done-buffer text out₀ out₁ m w))
-  final-done Full n w e f = let z : _≡_ {A = ℕ} 0 1 = cc in absurd (omega arith)
+module _ (text out₀ out₁ l l′ : List ℕ) where
+  pub final-done : (r : Put) (n : ℕ) → Said text 0 r out₀ out₁ → n ≡ sizeOf r → l′ ≡ toldIn n l → true ≡ fitted r
+      → (0 ≡ numberIn text (length out₀)) × ((l′ ≡ toldIn (lengthIn text (length out₀)) l) × (out₁ ≡ bufferIn text out₀))
+  final-done (Next m) n w e t f = (done-number text out₀ out₁ m w, (t ∙ ap (λ (k : ℕ). toldIn k l) (e ∙ done-length text out₀ out₁ m w), done-buffer text out₀ out₁ m w))
+  final-done Full n w e t f = let z : _≡_ {A = ℕ} 0 1 = cc in absurd (omega arith)
 
-  pub final-full : (r : Put) (n : ℕ) → Said text 0 r out₀ out₁ → n ≡ sizeOf r → false ≡ fitted r → (out₂ : List ℕ) → out₂ ≡ replicate (length out₁) 0
-      → (15 ≡ numberIn text (length out₀)) × ((n ≡ lengthIn text (length out₀)) × (out₂ ≡ bufferIn text out₀))
-  final-full (Next m) n w e f out₂ z = let q : _≡_ {A = ℕ} 0 1 = cc in absurd (omega arith)
-  final-full Full n w e f out₂ z = (full-number text out₀ out₁ w, (e ∙ full-length text out₀ out₁ w, z ∙ full-buffer text out₀ out₁ w))
+  pub final-full : (r : Put) (n : ℕ) → Said text 0 r out₀ out₁ → n ≡ sizeOf r → l′ ≡ toldIn n l → false ≡ fitted r → (out₂ : List ℕ) → out₂ ≡ replicate (length out₁) 0
+      → (15 ≡ numberIn text (length out₀)) × ((l′ ≡ toldIn (lengthIn text (length out₀)) l) × (out₂ ≡ bufferIn text out₀))
+  final-full (Next m) n w e t f out₂ z = let q : _≡_ {A = ℕ} 0 1 = cc in absurd (omega arith)
+  final-full Full n w e t f out₂ z = (full-number text out₀ out₁ w, (t ∙ ap (λ (k : ℕ). toldIn k l) (e ∙ full-length text out₀ out₁ w), z ∙ full-buffer text out₀ out₁ w))

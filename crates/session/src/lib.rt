@@ -7,6 +7,7 @@ ghost use Rattle.paper.specs.Session.{first, second, asking, bench, lineStep, a
 ghost use Rattle.text.specs.Parts.{part, partsFrom};
 ghost use Rattle.tables.specs.Tables.{tables, actors};
 ghost use Rattle.reply.specs.Said.{Said};
+ghost use Rattle.lent_place.specs.Places.{toldIn};
 ghost use Rattle.session.specs.Begin.{Begun, Inside};
 ghost use Rattle.session.specs.Ask.{Fresh};
 ghost use Rattle.session.specs.Final.{fitted, sizeOf};
@@ -158,24 +159,25 @@ fn fits(r: Put) -> bool
 }
 
 // The answer's length, and 0 where it did not fit.
-fn size_of(r: Put) -> usize
+fn size_of(r: Put) -> u64
     ensures { λ n. ⌜ n ≡ sizeOf r ⌝ }
 {
     match r {
-        Put::Next(n) => n,
+        Put::Next(n) => n as u64,
         Put::Full => 0,
     }
 }
 
-// The session: the answer to a change list. The number is 0, or 15 where the buffer is shorter than the answer; then every byte of it is 0, and so is the length.
+// The session: the answer to a change list. The number is 0, or 15 where the buffer is shorter than the answer; then every byte of it is 0. The length is told
+// with either number; with 15 it is 0.
 #[no_mangle]
-pub extern "C" fn cg_session(input: &[u8], answer: &mut [u8], size: &mut usize) -> u32
+pub extern "C" fn cg_session(input: &[u8], answer: &mut [u8], told: &mut [u64]) -> u32
     ensures { λ r. ⌜ r ≡ numberIn (session (now (input .entry))) (length (now (answer .entry))) ⌝ }
-    ensures { λ _. ⌜ now (size .exit) ≡ lengthIn (session (now (input .entry))) (length (now (answer .entry))) ⌝ }
+    ensures { λ _. ⌜ now (told .exit) ≡ toldIn (lengthIn (session (now (input .entry))) (length (now (answer .entry)))) (now (told .entry)) ⌝ }
     ensures { λ _. ⌜ now (answer .exit) ≡ bufferIn (session (now (input .entry))) (now (answer .entry)) ⌝ }
 {
     let r = run(input, answer);
-    *size = size_of(r);
+    lent_place::tell(told, size_of(r));
     if fits(r) {
         return 0;
     }
