@@ -306,7 +306,7 @@ static void step_clock(uint64_t *place, size_t told) {
 
 /* Opening, loading two changes (one in four times with a column too short), an actor taken away, a table damaged in both worlds and mended, and a session. */
 static void step_seldom(uint64_t *place, size_t told) {
-  static const uint64_t by[2] = {0, 1}, seqs[2] = {1, 1}, tops[2] = {6, 7}, ops[2] = {4, 2}, deps[2] = {0, 1}, on[2] = {0, 0};
+  static const uint64_t by[2] = {1, 0}, seqs[2] = {1, 1}, tops[2] = {6, 7}, ops[2] = {4, 2}, deps[2] = {0, 1}, on[2] = {0, 0};
   uint64_t actors = 1 + chance(ACTORS + 1), at = chance(ACTORS);
   size_t room = chance(sizeof ours.text + 1);
   size_t len[7] = {2, 2, 2, 2, 2, 1, CG_HASH}, one = chance(28);

@@ -18,8 +18,10 @@
  * Threads. Nothing is kept between calls and nothing is shared but what is lent. So calls on different tables may run at the same time, and so may calls that only read
  * the same ones (`const`); a call that writes a table must be alone with it, in a signal handler too. A call that is ended in the middle leaves what it writes half written.
  *
- * Saving. The tables are plain numbers in the processor's byte order and may be written to a file and read back: docs/SAVING.md says what, in which order, and what a
- * function then finds out about them; host/saved.c does it.
+ * Saving. The tables are plain numbers in the processor's byte order. Write the counts and the used parts of hashes, nodes, edges and queue, with your keys, to a new file, and
+ * rename it over the old one once it is on the disk; reading back, make the rows of the changes in `clocks` 0 (not cached) and ask one function whether the tables are valid. A
+ * torn or changed file is CG_NOT_VALID only where the tables contradict themselves: with another byte in a hash they are valid too, so a checksum is yours to write. cg_load
+ * builds a graph from columns instead, and may refuse with CG_COLUMNS_DISAGREE what cg_add took. docs/SAVING.md has all of it; host/saved.c does it.
  */
 #ifndef CG_CHANGEGRAPH_H
 #define CG_CHANGEGRAPH_H
@@ -264,6 +266,9 @@ CG_ANSWER cg_chained(const uint8_t *hashes, size_t hashes_len, const uint32_t *n
  * changes that are depended on, change after change; values past the last change's are ignored. `heads` are the stated heads, 32 bytes each, in any order.
  * `actor_count` is how many actors there are. Clocks are cached as adding the changes one after the other would cache them.
  * CG_DONE, CG_NOT_VALID (lengths that disagree), CG_MALFORMED, CG_NO_ACTOR_ROOM, CG_COLUMNS_DISAGREE, CG_NO_NODE_ROOM, CG_NO_EDGE_ROOM, in this order.
+ * The columns disagree where one is not as long as there are hashes, an actor is not below the count, max op or op count break CG_WRONG_OPS, a change has more than 32
+ * dependencies, the values are fewer than the counts say, a dependency is not an earlier change, a max op is below a dependency's (cg_add takes such a change), an actor's
+ * sequences do not run 1, 2, 3, a hash stands twice, or the stated heads are not the heads.
  * With every number but CG_DONE the tables are as they were. */
 CG_ANSWER cg_load(uint8_t *hashes, size_t hashes_len, uint32_t *nodes, size_t nodes_len, cg_edge *edges, size_t edges_len, uint32_t *clocks,
                   size_t clocks_len, uint32_t *counts, size_t counts_len, const uint8_t *ids, size_t ids_len, const uint64_t *actors,

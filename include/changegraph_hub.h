@@ -13,13 +13,15 @@
  * A graph or a queue of other room has its own tables: fill a cg_graph or a cg_queue with their pointers and lengths.
  *
  * The way of a change that comes in:
- *   1. Ask whether the graph has it (cg_hub_has_change) or the queue (cg_hub_queue_has_hash): it came twice. Ask whether another one of its device and sequence waits
- *      (cg_hub_queue_has_actor_seq): the device has it wrong.
- *   2. cg_hub_batch_push, one or many; then cg_hub_hand_over. CG_NO_QUEUE_ROOM leaves the batch as it was: add what of it can be added, which may be what the queue waits
- *      for, and open the batch again.
+ *   1. Refuse what would wait for nothing: a device without an actor (cg_actor_of gives CG_NOBODY), a sequence that it has had (cg_hub_seq_for_actor). Ask whether the graph
+ *      has the hash (cg_hub_has_change) or the queue (cg_hub_queue_has_hash): then it came before. Ask whether another one of its device and sequence waits
+ *      (cg_hub_queue_has_actor_seq): then the device has it wrong. A hash stands for its change; that two changes come with one hash is not found out here.
+ *   2. cg_hub_batch_push, one or many; then cg_hub_hand_over (for one change alone cg_let_wait is both). CG_NO_QUEUE_ROOM leaves the batch as it was: add what of it can be
+ *      added, which may be what the queue waits for, and open the batch again.
  *   3. cg_hub_release into the tables of the batch, which is empty now.
  *   4. cg_hub_add each record (cg_change_at), for the actor of its key (cg_actor_of), in their order. One that is refused with CG_UNKNOWN_DEPENDENCY, or with CG_WRONG_SEQUENCE
- *      since its sequence is still to come, may wait on (cg_let_wait); once others were added, release again.
+ *      since its device's one before it is still to come, may wait on (cg_let_wait). From 3 again, until a round adds nothing or leaves nothing waiting on.
+ * A change that can never be added keeps its device and sequence taken while it waits; cg_hub_remove_actor_branch_from drops it, with all that follows it.
  *
  * Long answers may go into the tables of the empty batch too: its `deps` hold every list of hashes. So a hub is below 2 MiB with its answers (docs/MEMORY.md).
  *

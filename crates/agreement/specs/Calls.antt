@@ -52,9 +52,9 @@ use Rattle.hub_batch.specs.Operations.{QueueOpened, BatchPushed}
 use Rattle.hub_queue.specs.Operations.{queue-of, HandedOver, BranchRemoved, QueueIsEmpty, QueueHasHash, QueueHasActorSeq, QueueGiven}
 use Rattle.hub_release.specs.Operations.{Stock, FreedBy}
 use Rattle.clock.specs.declared.Entry.the-variants.{Sequence}
-use Rattle.clock_checked.specs.Told.{getTold, opTold, insertTold, removeTold, afterTold, beforeTold}
-use Rattle.clock_struct.specs.Clocks.{StructDone, StructAsked, ClockIncluded, ClockMerged, ClockIsolated, ClockCovered}
-use Rattle.hub_clock_slices.specs.Face.{SliceAsked, SliceGave, SliceChanged, rangeOf}
+use Rattle.clock_checked.specs.Told.{SliceAsked, getTold, opTold, insertTold, removeTold, afterTold, beforeTold}
+use Rattle.clock_struct.specs.Clocks.{StructDone, ClockIncluded, ClockMerged, ClockIsolated, ClockCovered}
+use Rattle.hub_clock_slices.specs.Face.{SliceGave, SliceChanged, rangeOf}
 use Rattle.queue.specs.Asked.{yesOrNo, queueAnswerNumber}
 use Rattle.agreement.specs.ActorsAgree.{opening-agrees, inserting-agrees, removing-agrees}
 use Rattle.agreement.specs.AskingAgrees.{listed-reply, place-reply, yes-no-reply, look-up-agrees, has-agrees, current-agrees, index-agrees, actor-seq-agrees, owner-agrees, heads-agree, head-nodes-agree, deps-agree, missing-agrees, outside-agrees, clock-agrees, op-clock-agrees, actors-agree}
@@ -253,8 +253,8 @@ module _ (r kind : ℕ) (b : List ℕ) (n : ℕ) (c : List ℕ) (m a counter : �
 
 -- as structs
 module _ (r : ℕ) (c : List ℕ) (n : ℕ) (c′ : List ℕ) (n′ : ℕ) where
-  pub clock-include-gives : (a x y y′ : ℕ) → ClockIncluded c n a x y r c′ n′ y′ → r ≡ number (judged-lent (clock-lent n (length c)) (judged-place n a))
-  clock-include-gives a x y y′ p = ap (λ (d : StructDone). d .number) (p .0) ∙ include-agrees c n a (Sequence x)
+  pub clock-include-gives : (a x : ℕ) (l l′ : List ℕ) → ClockIncluded c n a x l r c′ n′ l′ → r ≡ number (judged-lent (clock-lent n (length c)) (judged-place n a))
+  clock-include-gives a x l l′ p = p .0 .asked .number ∙ include-agrees c n a (Sequence x)
 
   pub clock-merge-gives : (b : List ℕ) (m : ℕ) → ClockMerged c n b m r c′ n′ → r ≡ number (judged-lent (clock-lent n (length c) && clock-lent m (length b)) done)
   clock-merge-gives b m p = ap (λ (d : StructDone). d .number) (p .0) ∙ merge-agrees c n b m
@@ -262,5 +262,5 @@ module _ (r : ℕ) (c : List ℕ) (n : ℕ) (c′ : List ℕ) (n′ : ℕ) where
   pub clock-isolate-gives : (a : ℕ) → ClockIsolated c n a r c′ n′ → r ≡ number (judged-lent (clock-lent n (length c)) (judged-place n a))
   clock-isolate-gives a p = ap (λ (d : StructDone). d .number) (p .0) ∙ isolate-agrees c n a
 
-pub clock-covers-gives : (r : ℕ) (c : List ℕ) (n : ℕ) (b : List ℕ) (m y y′ : ℕ) → ClockCovered c n b m y r y′ → r ≡ number (judged-lent (clock-lent n (length c) && clock-lent m (length b)) (judged-covers n m))
-clock-covers-gives r c n b m y y′ p = ap (λ (d : StructAsked). d .number) p ∙ covers-agrees c n b m
+pub clock-covers-gives : (r : ℕ) (c : List ℕ) (n : ℕ) (b : List ℕ) (m : ℕ) (l l′ : List ℕ) → ClockCovered c n b m l r l′ → r ≡ number (judged-lent (clock-lent n (length c) && clock-lent m (length b)) (judged-covers n m))
+clock-covers-gives r c n b m l l′ p = p .number ∙ covers-agrees c n b m

@@ -1,8 +1,9 @@
--- What the operations on lent clocks answer, and the entries afterwards: `c` the entries lent, `n` how many are in use.
+-- What the operations on lent clocks answer, the entries afterwards, and the yes or no told in a lent place: `c` the entries lent, `n` how many are in use.
 -- Assumes nothing.
+use mathlib.Core.Path.{_≡_}
 use Prim.Native.Nat.{ℕ}
 use mathlib.Core.List.{List, _++_}
-use mathlib.Core.Bool.{Bool, true, false, cond, _&&_}
+use mathlib.Core.Bool.{Bool, cond, _&&_}
 use lib.ListN.{length, getD, take, drop}
 use lib.Dec.{eqb, ltb, leb}
 use Rattle.paper.specs.Numbers.{Outcome, number, done, not-valid, no-actor, no-actor-room}
@@ -10,6 +11,7 @@ use Rattle.clock.specs.Clock.{takes, included, joined, coversAll, isolated, opC
 use Rattle.clock.specs.declared.Entry.{Entry}
 use Rattle.clock.specs.declared.Range.{Range}
 use Rattle.clock.specs.declared.Range.the-variants.{Current, CurrentAt, Diff}
+use Rattle.lent_place.specs.Places.{toldIn}
 use Rattle.clock_checked.specs.declared.Got.{Got}
 use Rattle.clock_checked.specs.declared.Got.the-variants as got
 use Rattle.clock_checked.specs.declared.Answer.{Answer}
@@ -27,16 +29,21 @@ clockOutcome NoRoom = no-actor-room
 abbrev pub clockNumber : Answer → ℕ
 clockNumber a = number (clockOutcome a)
 
--- 1 for yes
-abbrev pub yesOf : Answer → ℕ
-yesOf Done = 0
-yesOf Yes = 1
-yesOf No = 0
-yesOf NotValid = 0
-yesOf NoPlace = 0
-yesOf NoRoom = 0
+-- yes is told as 1 and no as 0 in a lent place; any other answer leaves it as it was
+abbrev pub sliceYesIn : Answer → List ℕ → List ℕ
+sliceYesIn Yes l = toldIn 1 l
+sliceYesIn No l = toldIn 0 l
+sliceYesIn Done l = l
+sliceYesIn NotValid l = l
+sliceYesIn NoPlace l = l
+sliceYesIn NoRoom l = l
 
--- the same of the answer that holds an entry
+-- a question that is answered a: the number r, and the place, which held l, holds l′
+pub record SliceAsked (a : Answer) (l : List ℕ) (r : ℕ) (l′ : List ℕ) : Type 0 where
+  pub number : r ≡ clockNumber a
+  pub place : l′ ≡ sliceYesIn a l
+
+-- the outcome and number of the answer that holds an entry
 abbrev pub outcomeGot : Got → Outcome
 outcomeGot (got.Entry x) = done
 outcomeGot got.NotValid = not-valid

@@ -1,6 +1,6 @@
--- Every number but 0 leaves the entries as they were.
+-- Every number but 0 leaves the entries as they were; and from an answer to its number and its place.
 -- Assumes nothing.
-use mathlib.Core.Path.{_≡_, refl}
+use mathlib.Core.Path.{_≡_, refl, ap, _∙_}
 use mathlib.Core.List.{List, _++_}
 use mathlib.Core.Bool.{Bool, true, false, cond, _&&_}
 use Prim.Native.Nat.{ℕ, _≤_}
@@ -9,7 +9,7 @@ use lib.ListN.{length, getD, take, drop}
 use borrow.Author.Tests.{leb-true}
 use Rattle.paper.proofs.Bools.{and-fst, and-snd}
 use Rattle.clock.specs.Clock.{takes, included, joined, isolated, inserted, removed}
-use Rattle.clock_checked.specs.Told.{EntriesLeft, entries-left, clockNumber, clockYesNo, clockLendable, includeTold, mergeTold, isolateTold, insertTold, removeTold}
+use Rattle.clock_checked.specs.Told.{EntriesLeft, entries-left, clockNumber, sliceYesIn, SliceAsked, clockYesNo, clockLendable, includeTold, mergeTold, isolateTold, insertTold, removeTold}
 use Rattle.clock.specs.declared.Entry.{Entry}
 use Rattle.clock_checked.specs.declared.Answer.{Answer}
 use Rattle.clock_checked.specs.declared.Answer.the-variants.{Done, NotValid, NoPlace, NoRoom}
@@ -49,6 +49,11 @@ module _ (c : List ℕ) (n : ℕ) where
 
   pub remove-keeps : (p : ℕ) → Keeps (removeTold c n p) c
   remove-keeps p = unless (clockLendable c n) NotValid c _ (refuses (leb n p) NoPlace c _ (fulfils Done (removed c n p) c refl))
+
+-- ---- a question of which the answer, its number and its place are known
+
+pub asks : (a t : Answer) (l : List ℕ) (r : ℕ) (l′ : List ℕ) → a ≡ t → r ≡ clockNumber a → l′ ≡ sliceYesIn a l → SliceAsked t l r l′
+asks a t l r l′ p q s = record { number = q ∙ ap clockNumber p; place = s ∙ ap (λ (x : Answer). sliceYesIn x l) p }
 
 -- ---- a clock that may be lent has the entries that are in use
 

@@ -2,7 +2,7 @@
 // below the count and whatever else is refused get an answer of their own, and leave every entry as it was.
 ghost use mathlib.Core.Path.{_≡_};
 ghost use mathlib.Core.Bool.{_&&_};
-ghost use Rattle.clock_checked.specs.Told.{entries-left, clockLendable, clockNumber, numberGot, yesOf, getTold, includeTold, mergeTold, coversTold, isolateTold, opTold, insertTold, removeTold, afterTold, beforeTold};
+ghost use Rattle.clock_checked.specs.Told.{entries-left, clockLendable, clockNumber, numberGot, sliceYesIn, getTold, includeTold, mergeTold, coversTold, isolateTold, opTold, insertTold, removeTold, afterTold, beforeTold};
 use clock::Entry;
 use clock::Range;
 
@@ -40,17 +40,17 @@ pub fn number(a: Answer) -> u32
     }
 }
 
-// 1 for yes, and 0 for every other answer.
-pub fn yes(a: Answer) -> u32
-    ensures { λ r. ⌜ r ≡ yesOf a ⌝ }
+// Tells yes as 1 and no as 0 in a lent place; every other answer leaves it as it was.
+pub fn tell_yes(a: Answer, told: &mut [u64])
+    ensures { λ r. ⌜ now (told .exit) ≡ sliceYesIn a (now (told .entry)) ⌝ }
 {
     match a {
-        Answer::Done => 0,
-        Answer::Yes => 1,
-        Answer::No => 0,
-        Answer::NotValid => 0,
-        Answer::NoPlace => 0,
-        Answer::NoRoom => 0,
+        Answer::Yes => lent_place::tell(told, 1),
+        Answer::No => lent_place::tell(told, 0),
+        Answer::Done => {}
+        Answer::NotValid => {}
+        Answer::NoPlace => {}
+        Answer::NoRoom => {}
     }
 }
 

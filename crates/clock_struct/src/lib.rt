@@ -1,9 +1,10 @@
 // A clock of 64 entries, lent by `&mut` and changed where it lies: thin functions over a covered core on its entries. They have no branch of their own;
-// the core decides everything, the number included. In C a `&mut Clock` is a `Clock *`, and a `&mut u32` a `uint32_t *`.
+// the core decides everything, the number included. A yes or no is told in a lent place, which every number but 0 leaves as it was. In C a `&mut Clock` is a `cg_clock *`.
 ghost use mathlib.Core.Path.{_≡_};
-ghost use Rattle.clock_struct.specs.Clocks.{struct-done, struct-asked, includeDone, mergeDone, isolateDone, coversAsked, ClockIncluded, ClockMerged, ClockIsolated, ClockCovered};
+ghost use Rattle.clock.specs.declared.Entry.the-variants.{Sequence};
+ghost use Rattle.clock_checked.specs.Told.{SliceAsked, includeTold, coversTold};
+ghost use Rattle.clock_struct.specs.Clocks.{struct-done, mergeDone, isolateDone, StructEntered, ClockIncluded, ClockMerged, ClockIsolated, ClockCovered};
 use clock::Entry;
-use clock_checked::Answer;
 
 // The first `count` entries are in use. A count above 64 is no valid clock, and answers 1.
 #[repr(C)]
@@ -18,16 +19,13 @@ fn wide(x: u32) -> usize
     x as usize
 }
 
-// Enters a sequence at a place. The number; where it is 0, `rose` becomes 1 for yes and 0 for no.
-pub fn include_in(entries: &mut [u32], count: u32, place: usize, seq: u32, rose: &mut u32) -> u32
-    ensures { λ r. ⌜ struct-done r (now (rose .exit)) (now (entries .exit)) ≡ includeDone (now (entries .entry)) count place seq (now (rose .entry)) ⌝ }
+// Enters a sequence at a place; where that is done, whether the entry rose is told, 1 for yes and 0 for no. The number.
+pub fn include_in(entries: &mut [u32], count: u32, place: usize, seq: u32, told: &mut [u64]) -> u32
+    ensures { λ r. ⌜ StructEntered (includeTold (now (entries .entry)) count place (Sequence seq)) (now (told .entry)) r (now (entries .exit)) (now (told .exit)) ⌝ }
 {
     let a = clock_checked::try_include(entries, wide(count), place, Entry::Sequence(seq));
-    let n = clock_checked::number(a);
-    if n == 0 {
-        *rose = clock_checked::yes(a);
-    }
-    n
+    clock_checked::tell_yes(a, told);
+    clock_checked::number(a)
 }
 
 // Joins the first clock with the second: the larger entry at each place that both have. The number.
@@ -44,24 +42,21 @@ pub fn isolate_in(entries: &mut [u32], count: u32, place: usize) -> u32
     clock_checked::number(clock_checked::try_isolate(entries, wide(count), place))
 }
 
-// Is no entry of the second clock larger? The number; where it is 0, `covered` becomes 1 for yes and 0 for no.
-pub fn covers_in(a: &[u32], n: u32, b: &[u32], m: u32, covered: &mut u32) -> u32
-    ensures { λ r. ⌜ struct-asked r (now (covered .exit)) ≡ coversAsked (now (a .entry)) n (now (b .entry)) m (now (covered .entry)) ⌝ }
+// Is no entry of the second clock larger? 1 for yes and 0 for no is told. The number.
+pub fn covers_in(a: &[u32], n: u32, b: &[u32], m: u32, told: &mut [u64]) -> u32
+    ensures { λ r. ⌜ SliceAsked (coversTold (now (a .entry)) n (now (b .entry)) m) (now (told .entry)) r (now (told .exit)) ⌝ }
 {
     let r = clock_checked::try_covers(a, wide(n), b, wide(m));
-    let k = clock_checked::number(r);
-    if k == 0 {
-        *covered = clock_checked::yes(r);
-    }
-    k
+    clock_checked::tell_yes(r, told);
+    clock_checked::number(r)
 }
 
 #[no_mangle]
-pub extern "C" fn cg_clock_include(c: &mut Clock, place: usize, seq: u32, rose: &mut u32) -> u32
-    ensures { λ r. ⌜ ClockIncluded (now (c .entry) .entries) (now (c .entry) .count) place seq (now (rose .entry)) r (now (c .exit) .entries) (now (c .exit) .count) (now (rose .exit)) ⌝ }
+pub extern "C" fn cg_clock_include(c: &mut Clock, place: usize, seq: u32, told: &mut [u64]) -> u32
+    ensures { λ r. ⌜ ClockIncluded (now (c .entry) .entries) (now (c .entry) .count) place seq (now (told .entry)) r (now (c .exit) .entries) (now (c .exit) .count) (now (told .exit)) ⌝ }
 {
     let n = c.count;
-    include_in(&mut c.entries, n, place, seq, rose)
+    include_in(&mut c.entries, n, place, seq, told)
 }
 
 #[no_mangle]
@@ -82,10 +77,10 @@ pub extern "C" fn cg_clock_isolate(e: &mut Clock, place: usize) -> u32
 }
 
 #[no_mangle]
-pub extern "C" fn cg_clock_covers(a: &Clock, b: &Clock, covered: &mut u32) -> u32
-    ensures { λ r. ⌜ ClockCovered (now (a .entry) .entries) (now (a .entry) .count) (now (b .entry) .entries) (now (b .entry) .count) (now (covered .entry)) r (now (covered .exit)) ⌝ }
+pub extern "C" fn cg_clock_covers(a: &Clock, b: &Clock, told: &mut [u64]) -> u32
+    ensures { λ r. ⌜ ClockCovered (now (a .entry) .entries) (now (a .entry) .count) (now (b .entry) .entries) (now (b .entry) .count) (now (told .entry)) r (now (told .exit)) ⌝ }
 {
     let k = a.count;
     let l = b.count;
-    covers_in(&a.entries, k, &b.entries, l, covered)
+    covers_in(&a.entries, k, &b.entries, l, told)
 }

@@ -104,8 +104,8 @@ SlicesJoin t =
 -- where `cg_chained` told yes, `cg_clock_covers` tells 1 exactly if every change in the second list's history is in the first list's
 abbrev pub CoversContains : Tables → Type 0
 CoversContains t =
-    ToldChained t → (l m a b : List ℕ) (n k old covered : ℕ) → AnsweredClock t l a n → AnsweredClock t m b k → ClockCovered a n b k old (number done) covered
-    → (covered ≡ 1) ↔ ((i : ℕ) → in-history-of t m i ≡ true → in-history-of t l i ≡ true)
+    ToldChained t → (l m a b told told′ : List ℕ) (n k : ℕ) → 0 < length told → AnsweredClock t l a n → AnsweredClock t m b k → ClockCovered a n b k told (number done) told′
+    → (getD told′ 0 0 ≡ 1) ↔ ((i : ℕ) → in-history-of t m i ≡ true → in-history-of t l i ≡ true)
 
 -- where `cg_chained` told yes, `cg_missing` gives the hashes outside the history of a have-list that is not empty
 abbrev pub MissingOutside : Tables → Type 0

@@ -26,10 +26,10 @@ use Rattle.tables.specs.Valid.{Lengths, Valid}
 use Rattle.tables.specs.DepsLaws.{valid-graph}
 use Rattle.clock.specs.Clock.{entryOf, joined, coversAll}
 use Rattle.clock.specs.ClockLaws.{length-joined, getD-joined, covers-paper}
-use Rattle.clock_checked.specs.Told.{EntriesLeft, entries-left, clockLendable, clockNumber, yesOf, clockYesNo, mergeTold, coversTold}
+use Rattle.clock_checked.specs.Told.{EntriesLeft, entries-left, clockLendable, clockNumber, sliceYesIn, clockYesNo, mergeTold, coversTold}
 use Rattle.clock_checked.specs.declared.Answer.{Answer}
 use Rattle.clock_checked.specs.declared.Answer.the-variants.{Done as Merged, NotValid}
-use Rattle.clock_struct.specs.Clocks.{StructDone, StructAsked}
+use Rattle.clock_struct.specs.Clocks.{StructDone}
 use Rattle.lent_place.specs.Places.{toldIn}
 use Rattle.answer_buffer.specs.Answers.{listAnswer, filled, whole-list}
 use Rattle.answer_buffer.specs.SlotLaws.{hashes-split, flat-hashes}
@@ -161,10 +161,10 @@ module _ (c : List ℕ) (n : ℕ) (b : List ℕ) (m : ℕ) where
       same-count x true = λ z. refl
       same-count x false = λ z. absurd (omega arith)
 
--- yes is told as 1
-yes-told : (b : Bool) → (yesOf (clockYesNo b) ≡ 1) ↔ (b ≡ true)
-yes-told true = ((λ _. refl), λ _. refl)
-yes-told false = ((λ z. absurd (omega arith)), λ e. absurd (false≢true e))
+-- in a place that is lent yes is told as 1
+yes-told : (told : List ℕ) → 0 < length told → (b : Bool) → (getD (sliceYesIn (clockYesNo b) told) 0 0 ≡ 1) ↔ (b ≡ true)
+yes-told told lent true = ((λ _. refl), λ _. getD-set-same told 0 1 0 lent)
+yes-told told lent false = ((λ z. let no = getD-set-same told 0 0 0 lent in absurd (omega arith)), λ e. absurd (false≢true e))
 
 -- ---- over valid tables
 
@@ -309,12 +309,12 @@ module _ (t : Tables) (v : Valid t) where
 
   -- where `cg_chained` told yes, `cg_clock_covers` tells 1 exactly if every change in the second list's history is in the first list's
   pub covers-contains : CoversContains t
-  covers-contains c l m a b n k old covered x y e =
-      let z : clockNumber (coversTold a n b k) ≡ number done = sym (ap (λ (s : StructAsked). s .number) e) in
-      let told : covered ≡ yesOf (coversTold a n b k) = ap (λ (s : StructAsked). s .yes) e ∙ rw (eq-eqb (clockNumber (coversTold a n b k)) 0 z) in
-      let same : covered ≡ yesOf (clockYesNo (coversAll (whole-clock t l) (whole-clock t m))) =
-      told ∙ ap yesOf (covers-done a n b k z ∙ ap₂ (λ (p q : List ℕ). clockYesNo (coversAll p q)) (answered-entries x) (answered-entries y)) in
-      let yes = yes-told (coversAll (whole-clock t l) (whole-clock t m)) in
+  covers-contains c l m a b told told′ n k lent x y e =
+      let answer : coversTold a n b k ≡ clockYesNo (coversAll (whole-clock t l) (whole-clock t m)) =
+      covers-done a n b k (sym (e .number)) ∙ ap₂ (λ (p q : List ℕ). clockYesNo (coversAll p q)) (answered-entries x) (answered-entries y) in
+      let same : getD told′ 0 0 ≡ getD (sliceYesIn (clockYesNo (coversAll (whole-clock t l) (whole-clock t m))) told) 0 0 =
+      ap (λ (p : List ℕ). getD p 0 0) (e .place ∙ ap (λ (p : Answer). sliceYesIn p told) answer) in
+      let yes = yes-told told lent (coversAll (whole-clock t l) (whole-clock t m)) in
       let entries = covers-paper (whole-clock t l) (whole-clock t m) (clock-long t l ∙ sym (clock-long t m)) in
       let clocks = clocks-cover l m in
       let holds = covers-holds (graph t) (valid-graph t (v .sound)) (told-chained c) (nodes (graph t) (hashes-of l)) (nodes (graph t) (hashes-of m)) in (

@@ -13,7 +13,7 @@ use Rattle.tables.specs.Tables.{Tables, graph}
 use Rattle.tables.specs.Valid.{Valid}
 use Rattle.waiting.specs.Valid.{waiting}
 use Rattle.queue.specs.Asked.{yesOrNo, askedHash}
-use Rattle.clock_checked.specs.Told.{getTold, opTold, insertTold, removeTold, afterTold, beforeTold}
+use Rattle.clock_checked.specs.Told.{getTold, coversTold, opTold, insertTold, removeTold, afterTold, beforeTold}
 use Rattle.clock_checked.specs.ToldLaws.{insert-keeps, remove-keeps}
 use Rattle.hub_open.specs.Operations.{counted}
 use Rattle.hub_add.specs.Operations.{Added}
@@ -29,7 +29,7 @@ use Rattle.demands.specs.Ties.{is-open, is-add, is-insert-actor, is-remo
 use Rattle.demands.specs.Questions.{clock-of, clock-at, missing-from, owner-of, heads, head-indexes, index-to-hash, hash-for-actor-seq, deps-for-hash, actor-ids, remove-ancestors, hash-to-index, has-change, seq-of-actor, max-op-of-actor, max-op-of-all, how-many, how-many-actors, are-heads, chained-asked}
 use Rattle.demands.specs.QuestionLaws.{question-demand, number-demand, is-clock-of, is-clock-at, is-missing, is-owner, is-heads, is-head-indexes, is-index-to-hash, is-hash-for-actor-seq, is-deps-for-hash, is-actor-ids, is-remove-ancestors, is-hash-to-index, is-has-change, is-seq-for-actor, is-max-op-for-actor, is-max-op, is-len, is-num-actors, is-heads-are-current, is-chained}
 use Rattle.demands.specs.WaitingLaws.{queue-open-demand, push-demand, hand-over-demand, branch-demand, queue-question-demand, iter-demand, release-demand}
-use Rattle.demands.specs.ClockLaws.{include-demand, merge-demand, isolate-demand, covers-demand, slice-asked-demand, slice-gave-demand, slice-changed-demand}
+use Rattle.demands.specs.ClockLaws.{include-demand, merge-demand, isolate-demand, slice-asked-demand, slice-gave-demand, slice-changed-demand}
 use Rattle.demands.specs.Session.{SessionAnswered, TextZeroed}
 use Rattle.demands.specs.SessionLaws.{session-demand, text-zeroed}
 use Rattle.demands.specs.Adds.{KnownChange, AddLeaves}
@@ -73,10 +73,10 @@ demand-1 (cg-queue-has-hash q h told r told′ p) = queue-question-demand q told
 demand-1 (cg-queue-has-actor-seq q key seq told r told′ p) = queue-question-demand q told told′ (yesOrNo (has-actor-seq (queue-of q) key seq)) r p
 demand-1 (cg-queue-iter q th tn td told r th′ tn′ td′ told′ p) = iter-demand q told told′ th tn td th′ tn′ td′ r p
 demand-1 (cg-release m r m′ t p) = release-demand m m′ r t p
-demand-1 (cg-clock-include c n k x y r c′ n′ y′ p) = include-demand c n k x y r c′ n′ y′ p
+demand-1 (cg-clock-include c n k x told r c′ n′ told′ p) = include-demand c n k x told r c′ n′ told′ p
 demand-1 (cg-clock-merge c n b m r c′ n′ p) = merge-demand c n b m r c′ n′ p
 demand-1 (cg-clock-isolate c n k r c′ n′ p) = isolate-demand c n k r c′ n′ p
-demand-1 (cg-clock-covers c n b m y r y′ p) = covers-demand c n b m y r y′ p
+demand-1 (cg-clock-covers c n b m told r told′ p) = slice-asked-demand (coversTold c n b m) told r told′ p
 demand-1 (cg-clock-get c n k told r told′ p) = slice-gave-demand (getTold c n k) told r told′ p
 demand-1 (cg-clock-op-covers c n a k told r told′ p) = slice-asked-demand (opTold c n a k) told r told′ p
 demand-1 (cg-clock-rewrite-with-new-actor c n k r c′ p) = slice-changed-demand (insertTold c n k) c r c′ (insert-keeps c n k) p

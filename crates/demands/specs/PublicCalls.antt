@@ -8,7 +8,7 @@ use Rattle.paper.specs.Adding.{Change}
 use Rattle.paper.specs.Loading.{Columns}
 use Rattle.tables.specs.Tables.{Tables}
 use Rattle.waiting.specs.Valid.{Store}
-use Rattle.clock_checked.specs.Told.{getTold, opTold, insertTold, removeTold, afterTold, beforeTold}
+use Rattle.clock_checked.specs.Told.{SliceAsked, getTold, opTold, insertTold, removeTold, afterTold, beforeTold}
 use Rattle.hub_open.specs.Operations.{Opened, counted}
 use Rattle.hub_add.specs.Operations.{Added}
 use Rattle.hub_actors.specs.Operations.{Inserted, Removed, renewed}
@@ -31,7 +31,7 @@ use Rattle.hub_batch.specs.Operations.{QueueOpened, BatchPushed}
 use Rattle.hub_queue.specs.Operations.{HandedOver, BranchRemoved, QueueIsEmpty, QueueHasHash, QueueHasActorSeq, QueueGiven}
 use Rattle.hub_release.specs.Operations.{Stock, FreedBy}
 use Rattle.clock_struct.specs.Clocks.{ClockIncluded, ClockMerged, ClockIsolated, ClockCovered}
-use Rattle.hub_clock_slices.specs.Face.{SliceAsked, SliceGave, SliceChanged, rangeOf}
+use Rattle.hub_clock_slices.specs.Face.{SliceGave, SliceChanged, rangeOf}
 use Rattle.demands.specs.Refusals.{tableLists, storeLists, stockLists}
 use Rattle.demands.specs.Session.{SessionAnswered}
 
@@ -76,10 +76,10 @@ pub data PublicCall : ℕ → List (List ℕ) → List (List ℕ) → Type 0 whe
   cg-queue-iter : (q : Store) (th tn td told : List ℕ) (r : ℕ) (th′ tn′ td′ told′ : List ℕ) → QueueGiven q th tn td told r th′ tn′ td′ told′ → PublicCall r (th ∷ tn ∷ td ∷ told ∷ []) (th′ ∷ tn′ ∷ td′ ∷ told′ ∷ [])
   cg-release : (m : Stock) (r : ℕ) (m′ : Stock) (t : Tables) → FreedBy m r m′ t → PublicCall r (stockLists m) (stockLists m′)
   -- clocks: entries, count, and the place
-  cg-clock-include : (c : List ℕ) (n place x y r : ℕ) (c′ : List ℕ) (n′ y′ : ℕ) → ClockIncluded c n place x y r c′ n′ y′ → PublicCall r (c ∷ (n ∷ []) ∷ (y ∷ []) ∷ []) (c′ ∷ (n′ ∷ []) ∷ (y′ ∷ []) ∷ [])
+  cg-clock-include : (c : List ℕ) (n place x : ℕ) (told : List ℕ) (r : ℕ) (c′ : List ℕ) (n′ : ℕ) (told′ : List ℕ) → ClockIncluded c n place x told r c′ n′ told′ → PublicCall r (c ∷ (n ∷ []) ∷ told ∷ []) (c′ ∷ (n′ ∷ []) ∷ told′ ∷ [])
   cg-clock-merge : (c : List ℕ) (n : ℕ) (b : List ℕ) (m r : ℕ) (c′ : List ℕ) (n′ : ℕ) → ClockMerged c n b m r c′ n′ → PublicCall r (c ∷ (n ∷ []) ∷ []) (c′ ∷ (n′ ∷ []) ∷ [])
   cg-clock-isolate : (c : List ℕ) (n place r : ℕ) (c′ : List ℕ) (n′ : ℕ) → ClockIsolated c n place r c′ n′ → PublicCall r (c ∷ (n ∷ []) ∷ []) (c′ ∷ (n′ ∷ []) ∷ [])
-  cg-clock-covers : (c : List ℕ) (n : ℕ) (b : List ℕ) (m y r y′ : ℕ) → ClockCovered c n b m y r y′ → PublicCall r ((y ∷ []) ∷ []) ((y′ ∷ []) ∷ [])
+  cg-clock-covers : (c : List ℕ) (n : ℕ) (b : List ℕ) (m : ℕ) (told : List ℕ) (r : ℕ) (told′ : List ℕ) → ClockCovered c n b m told r told′ → PublicCall r (told ∷ []) (told′ ∷ [])
   cg-clock-get : (c : List ℕ) (n place : ℕ) (told : List ℕ) (r : ℕ) (told′ : List ℕ) → SliceGave (getTold c n place) told r told′ → PublicCall r (told ∷ []) (told′ ∷ [])
   cg-clock-op-covers : (c : List ℕ) (n actor counter : ℕ) (told : List ℕ) (r : ℕ) (told′ : List ℕ) → SliceAsked (opTold c n actor counter) told r told′ → PublicCall r (told ∷ []) (told′ ∷ [])
   cg-clock-rewrite-with-new-actor : (c : List ℕ) (n place r : ℕ) (c′ : List ℕ) → SliceChanged (insertTold c n place) r c′ → PublicCall r (c ∷ []) (c′ ∷ [])

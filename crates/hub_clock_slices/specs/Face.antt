@@ -8,31 +8,16 @@ use lib.Dec.{eqb}
 use Rattle.clock.specs.declared.Range.{Range}
 use Rattle.clock.specs.declared.Range.the-variants.{Current, CurrentAt, Diff}
 use Rattle.clock_checked.specs.Told.{EntriesLeft, clockNumber, numberGot}
-use Rattle.clock_checked.specs.declared.Answer.{Answer}
-use Rattle.clock_checked.specs.declared.Answer.the-variants.{Done, Yes, No, NotValid, NoPlace, NoRoom}
 use Rattle.clock_checked.specs.declared.Got.{Got}
 use Rattle.clock_checked.specs.declared.Got.the-variants as got
 use Rattle.lent_place.specs.Places.{toldIn}
-
--- yes is told as 1 and no as 0; any other answer leaves the place as it was
-abbrev pub sliceYesIn : Answer → List ℕ → List ℕ
-sliceYesIn Yes l = toldIn 1 l
-sliceYesIn No l = toldIn 0 l
-sliceYesIn Done l = l
-sliceYesIn NotValid l = l
-sliceYesIn NoPlace l = l
-sliceYesIn NoRoom l = l
 
 -- the entry is told; a refusal leaves the place as it was
 abbrev pub entryIn : Got → List ℕ → List ℕ
 entryIn (got.Entry x) l = toldIn x l
 entryIn got.NotValid l = l
 
--- a question that is answered a: the number r, and the place, which held l, holds l′
-pub record SliceAsked (a : Answer) (l : List ℕ) (r : ℕ) (l′ : List ℕ) : Type 0 where
-  pub number : r ≡ clockNumber a
-  pub place : l′ ≡ sliceYesIn a l
-
+-- an answer g that holds an entry: the number r, and the place, which held l, holds l′
 pub record SliceGave (g : Got) (l : List ℕ) (r : ℕ) (l′ : List ℕ) : Type 0 where
   pub number : r ≡ numberGot g
   pub place : l′ ≡ entryIn g l

@@ -6,10 +6,7 @@ use Prim.Native.Nat.{ℕ}
 use Rattle.clock_checked.specs.Told.{EntriesLeft, entries-left, clockNumber, numberGot}
 use Rattle.clock_checked.specs.declared.Answer.{Answer}
 use Rattle.clock_checked.specs.declared.Got.{Got}
-use Rattle.hub_clock_slices.specs.Face.{sliceYesIn, entryIn, SliceAsked, SliceGave, SliceChanged}
-
-pub asks : (a t : Answer) (l : List ℕ) (r : ℕ) (l′ : List ℕ) → a ≡ t → r ≡ clockNumber a → l′ ≡ sliceYesIn a l → SliceAsked t l r l′
-asks a t l r l′ p q s = record { number = q ∙ ap clockNumber p; place = s ∙ ap (λ (x : Answer). sliceYesIn x l) p }
+use Rattle.hub_clock_slices.specs.Face.{entryIn, SliceGave, SliceChanged}
 
 pub gives : (g t : Got) (l : List ℕ) (r : ℕ) (l′ : List ℕ) → g ≡ t → r ≡ numberGot g → l′ ≡ entryIn g l → SliceGave t l r l′
 gives g t l r l′ p q s = record { number = q ∙ ap numberGot p; place = s ∙ ap (λ (x : Got). entryIn x l) p }

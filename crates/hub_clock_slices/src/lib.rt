@@ -1,30 +1,15 @@
 // Clocks on slices, from C: the entries and the count of those in use. Each function answers the paper's number of what `clock_checked` answers; a yes or no, and an
 // entry, are told in a lent place, which every number but 0 leaves as it was.
 ghost use mathlib.Core.Path.{_≡_};
-ghost use Rattle.clock_checked.specs.Told.{getTold, opTold, insertTold, removeTold, afterTold, beforeTold};
-ghost use Rattle.hub_clock_slices.specs.Face.{sliceYesIn, entryIn, SliceAsked, SliceGave, SliceChanged, rangeOf};
+ghost use Rattle.clock_checked.specs.Told.{SliceAsked, getTold, opTold, insertTold, removeTold, afterTold, beforeTold};
+ghost use Rattle.hub_clock_slices.specs.Face.{entryIn, SliceGave, SliceChanged, rangeOf};
 use clock::Range;
-use clock_checked::Answer;
 use clock_checked::Got;
 
 fn wide(x: u32) -> u64
     ensures { λ r. ⌜ r ≡ x ⌝ }
 {
     x as u64
-}
-
-// Tells yes or no.
-fn tell_yes(a: Answer, told: &mut [u64])
-    ensures { λ r. ⌜ now (told .exit) ≡ sliceYesIn a (now (told .entry)) ⌝ }
-{
-    match a {
-        Answer::Yes => lent_place::tell(told, 1),
-        Answer::No => lent_place::tell(told, 0),
-        Answer::Done => {}
-        Answer::NotValid => {}
-        Answer::NoPlace => {}
-        Answer::NoRoom => {}
-    }
 }
 
 // Tells the entry.
@@ -72,7 +57,7 @@ pub extern "C" fn cg_clock_op_covers(
     ensures { λ r. ⌜ SliceAsked (opTold (now (entries .entry)) count actor counter) (now (told .entry)) r (now (told .exit)) ⌝ }
 {
     let a = clock_checked::try_op_covers(entries, count, actor, counter);
-    tell_yes(a, told);
+    clock_checked::tell_yes(a, told);
     clock_checked::number(a)
 }
 
@@ -111,7 +96,7 @@ pub extern "C" fn cg_clock_visible_after(
     ensures { λ r. ⌜ SliceAsked (afterTold (rangeOf kind) (now (before .entry)) n (now (after .entry)) m actor counter) (now (told .entry)) r (now (told .exit)) ⌝ }
 {
     let a = clock_checked::try_visible_after(range_of(kind), before, n, after, m, actor, counter);
-    tell_yes(a, told);
+    clock_checked::tell_yes(a, told);
     clock_checked::number(a)
 }
 
@@ -130,6 +115,6 @@ pub extern "C" fn cg_clock_visible_before(
     ensures { λ r. ⌜ SliceAsked (beforeTold (rangeOf kind) (now (before .entry)) n (now (after .entry)) m actor counter) (now (told .entry)) r (now (told .exit)) ⌝ }
 {
     let a = clock_checked::try_visible_before(range_of(kind), before, n, after, m, actor, counter);
-    tell_yes(a, told);
+    clock_checked::tell_yes(a, told);
     clock_checked::number(a)
 }

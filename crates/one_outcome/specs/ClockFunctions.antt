@@ -7,11 +7,11 @@ use Prim.Native.Nat.{ℕ}
 use lib.ListN.{length}
 use Rattle.paper.specs.Session.{session, numberIn, lengthIn, bufferIn}
 use Rattle.lent_place.specs.Places.{toldIn}
-use Rattle.clock_checked.specs.Told.{getTold, opTold, insertTold, removeTold, afterTold, beforeTold}
-use Rattle.hub_clock_slices.specs.Face.{SliceAsked, SliceGave, SliceChanged, rangeOf}
+use Rattle.clock_checked.specs.Told.{SliceAsked, getTold, opTold, insertTold, removeTold, afterTold, beforeTold}
+use Rattle.hub_clock_slices.specs.Face.{SliceGave, SliceChanged, rangeOf}
 use Rattle.clock_struct.specs.Clocks.{ClockIncluded, ClockMerged, ClockIsolated, ClockCovered}
 use Rattle.clock_struct.specs.declared.Clock.{Clock}
-use Rattle.one_outcome.specs.Shapes.{settled, slice-asked-once, slice-gave-once, slice-changed-once, struct-done-once, struct-asked-once}
+use Rattle.one_outcome.specs.Shapes.{settled, slice-asked-once, slice-gave-once, slice-changed-once, struct-entered-once, struct-done-once}
 
 -- ---- clocks as slices: questions
 
@@ -46,11 +46,11 @@ module _ (entries : List ℕ) (count place r′ : ℕ) (entries′ : List ℕ) (
 same-clock : (c d : Clock) → c .entries ≡ d .entries → c .count ≡ d .count → c ≡ d
 same-clock c d p q = ap₂ (λ (e : List ℕ) (n : ℕ). record { entries = e; count = n }) p q
 
-pub cg-clock-include-once : (c : Clock) (place seq rose r′ : ℕ) (c′ : Clock) (rose′ r″ : ℕ) (c″ : Clock) (rose″ : ℕ)
-    → ClockIncluded (c .entries) (c .count) place seq rose r′ (c′ .entries) (c′ .count) rose′
-    → ClockIncluded (c .entries) (c .count) place seq rose r″ (c″ .entries) (c″ .count) rose″
-    → (r′ ≡ r″) × (c′ ≡ c″) × (rose′ ≡ rose″)
-cg-clock-include-once c place seq rose r′ c′ rose′ r″ c″ rose″ p q = let e = struct-done-once (p .0) (q .0) in (e .0, same-clock c′ c″ (e .2) (settled (p .1) (q .1)), e .1)
+pub cg-clock-include-once : (c : Clock) (place seq : ℕ) (told : List ℕ) (r′ : ℕ) (c′ : Clock) (told′ : List ℕ) (r″ : ℕ) (c″ : Clock) (told″ : List ℕ)
+    → ClockIncluded (c .entries) (c .count) place seq told r′ (c′ .entries) (c′ .count) told′
+    → ClockIncluded (c .entries) (c .count) place seq told r″ (c″ .entries) (c″ .count) told″
+    → (r′ ≡ r″) × (c′ ≡ c″) × (told′ ≡ told″)
+cg-clock-include-once c place seq told r′ c′ told′ r″ c″ told″ p q = let e = struct-entered-once (p .0) (q .0) in (e .0, same-clock c′ c″ (e .1) (settled (p .1) (q .1)), e .2)
 
 pub cg-clock-merge-once : (a b : Clock) (r′ : ℕ) (a′ : Clock) (r″ : ℕ) (a″ : Clock)
     → ClockMerged (a .entries) (a .count) (b .entries) (b .count) r′ (a′ .entries) (a′ .count)
@@ -64,11 +64,11 @@ pub cg-clock-isolate-once : (e : Clock) (place r′ : ℕ) (e′ : Clock) (r″ 
     → (r′ ≡ r″) × (e′ ≡ e″)
 cg-clock-isolate-once e place r′ e′ r″ e″ p q = let d = struct-done-once (p .0) (q .0) in (d .0, same-clock e′ e″ (d .2) (settled (p .1) (q .1)))
 
-pub cg-clock-covers-once : (a b : Clock) (covered r′ covered′ r″ covered″ : ℕ)
-    → ClockCovered (a .entries) (a .count) (b .entries) (b .count) covered r′ covered′
-    → ClockCovered (a .entries) (a .count) (b .entries) (b .count) covered r″ covered″
-    → (r′ ≡ r″) × (covered′ ≡ covered″)
-cg-clock-covers-once a b covered r′ covered′ r″ covered″ p q = struct-asked-once p q
+pub cg-clock-covers-once : (a b : Clock) (told : List ℕ) (r′ : ℕ) (told′ : List ℕ) (r″ : ℕ) (told″ : List ℕ)
+    → ClockCovered (a .entries) (a .count) (b .entries) (b .count) told r′ told′
+    → ClockCovered (a .entries) (a .count) (b .entries) (b .count) told r″ told″
+    → (r′ ≡ r″) × (told′ ≡ told″)
+cg-clock-covers-once a b told r′ told′ r″ told″ p q = slice-asked-once p q
 
 -- ---- the session
 

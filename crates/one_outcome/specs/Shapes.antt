@@ -15,11 +15,11 @@ use Rattle.edges.specs.declared.Edge.{Edge}
 use Rattle.hub_answer.specs.Asks.{Reply, Asks, Tells}
 use Rattle.hub_add.specs.Operations.{Added}
 use Rattle.lent_place.specs.Places.{Numbered}
-use Rattle.clock_checked.specs.Told.{EntriesLeft}
+use Rattle.clock_checked.specs.Told.{SliceAsked, EntriesLeft}
 use Rattle.clock_checked.specs.declared.Answer.{Answer}
 use Rattle.clock_checked.specs.declared.Got.{Got}
-use Rattle.hub_clock_slices.specs.Face.{SliceAsked, SliceGave, SliceChanged}
-use Rattle.clock_struct.specs.Clocks.{StructDone, struct-done, StructAsked, struct-asked}
+use Rattle.hub_clock_slices.specs.Face.{SliceGave, SliceChanged}
+use Rattle.clock_struct.specs.Clocks.{StructDone, struct-done, StructEntered}
 use Rattle.demands.specs.RefusalLaws.{stable}
 
 -- ---- whether what is lent is valid or not
@@ -128,12 +128,10 @@ pub slice-changed-once : {t : EntriesLeft} {c′ c″ : List ℕ} {r′ r″ : �
 slice-changed-once p q = (settled (p .number) (q .number), settled (p .entries) (q .entries))
 
 -- as structs
+pub struct-entered-once : {t : EntriesLeft} {l l′ l″ c′ c″ : List ℕ} {r′ r″ : ℕ} → StructEntered t l r′ c′ l′ → StructEntered t l r″ c″ l″ → (r′ ≡ r″) × (c′ ≡ c″) × (l′ ≡ l″)
+struct-entered-once p q = let e = slice-asked-once (p .asked) (q .asked) in (e .0, settled (p .entries) (q .entries), e .1)
+
 pub struct-done-once : {d : StructDone} {r′ y′ r″ y″ : ℕ} {c′ c″ : List ℕ} → struct-done r′ y′ c′ ≡ d → struct-done r″ y″ c″ ≡ d → (r′ ≡ r″) × (y′ ≡ y″) × (c′ ≡ c″)
 struct-done-once {d} {r′} {y′} {r″} {y″} {c′} {c″} p q =
     let e : struct-done r′ y′ c′ ≡ struct-done r″ y″ c″ = settled p q in
     (ap (λ (s : StructDone). s .number) e, ap (λ (s : StructDone). s .yes) e, ap (λ (s : StructDone). s .entries) e)
-
-pub struct-asked-once : {d : StructAsked} {r′ y′ r″ y″ : ℕ} → struct-asked r′ y′ ≡ d → struct-asked r″ y″ ≡ d → (r′ ≡ r″) × (y′ ≡ y″)
-struct-asked-once {d} {r′} {y′} {r″} {y″} p q =
-    let e : struct-asked r′ y′ ≡ struct-asked r″ y″ = settled p q in
-    (ap (λ (s : StructAsked). s .number) e, ap (λ (s : StructAsked). s .yes) e)

@@ -1,6 +1,6 @@
 -- `hub_clock_slices::cg_clock_visible_after` meets its contract: the answer, as its number and in the lent place.
 -- Assumes nothing.
-use Rattle.hub_clock_slices.specs.FaceLaws.{asks}
+use Rattle.clock_checked.specs.ToldLaws.{asks}
 use borrow.Author.Needs.{needs}
 use Rattle.hub_clock_slices.proofs.cg_clock_visible_after.Statement.{statement}
 use Rattle.hub_clock_slices.proofs.cg_clock_visible_after.Tie as tie

@@ -1,8 +1,8 @@
--- `hub_clock_slices::tell_yes` meets its contract, answer by answer.
+-- `clock_checked::tell_yes` meets its contract, answer by answer.
 -- Assumes nothing.
 use borrow.Author.Needs.{needs}
-use Rattle.hub_clock_slices.proofs.tell_yes.Statement.{statement}
-use Rattle.hub_clock_slices.proofs.tell_yes.Tie as tie
+use Rattle.clock_checked.proofs.tell_yes.Statement.{statement}
+use Rattle.clock_checked.proofs.tell_yes.Tie as tie
 
 returns : tie.Need-returns
 returns c = rw (c .before .before .before .before .enum-told .given .1) (c .before .before .tell .ensures)
