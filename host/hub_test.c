@@ -122,7 +122,8 @@ static uint32_t placed(World *w, uint32_t number, const uint8_t *at, size_t byte
 
 static uint32_t missing_short(cg_list have, size_t room) {
   cg_list missing = {NULL, 0};
-  uint32_t number = cg_hub_missing(&graph, have, ours.out, room, &missing);
+  uint32_t number = cg_hub_missing(&graph, have, ours.out, room, NULL);
+  expect(cg_hub_missing(&graph, have, ours.out, room, &missing) == number, "the missing list, not told and told");
   return placed(&ours, number, missing.hashes, missing.bytes);
 }
 

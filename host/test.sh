@@ -120,7 +120,7 @@ done
 echo "session: the lists of examples/ have their answers"
 
 # The stack and the memory that docs/MEMORY.md has: each function of the header is measured and stands there, and each figure there is one that the program prints. Of the stack
-# 4,096 bytes more or less are let pass, since the C library has a part of a thread's stack; the rest is exact. The benchmark of the session is only built.
+# 4,096 bytes more or less are let pass, since the C library has a part of a thread's stack; the rest is exact. The benchmarks in C are only compiled.
 if [ -n "$RUN" ]; then
   not_here "the measured stack"
 else
@@ -165,6 +165,7 @@ else
   ran "the stack and the memory as docs/MEMORY.md has them"
 fi
 $CC $CFLAGS benchmarks/session.c target/libchangegraph.a -o target/host/session_benchmark
+$CC $CFLAGS -c benchmarks/public.c -o target/host/public_benchmark.o
 
 # What the same tool says of wrong lists; and its reading of a line against the session's, over lists changed at random.
 host/session_tool_test.sh $RUN target/host/session

@@ -26,7 +26,7 @@
  * Long answers may go into the tables of the empty batch too: its `deps` hold every list of hashes. So a hub is below 2 MiB with its answers (docs/MEMORY.md).
  *
  * A place for what is told is a pointer to one number here, and null where it is not wanted. It is written with CG_DONE alone, but for told_unknown of cg_hub_add and
- * told_bytes of cg_hub_session. A hash is a pointer to 32 bytes.
+ * told_bytes of cg_hub_session. A hash is a pointer to 32 bytes. cg_text has a number's words.
  */
 #ifndef CG_CHANGEGRAPH_HUB_H
 #define CG_CHANGEGRAPH_HUB_H
@@ -351,7 +351,7 @@ static inline CG_ANSWER cg_hub_clock_at(const cg_graph *g, cg_list list, cg_cloc
 static inline CG_ANSWER cg_hub_missing(const cg_graph *g, cg_list have, uint8_t *out, size_t out_bytes, cg_list *missing) {
   uint64_t bytes = 0;
   uint32_t number = cg_missing(CG_LENT_GRAPH(g), CG_LENT_LIST(have), out, out_bytes, &bytes, 1);
-  if (number == CG_DONE) {
+  if (number == CG_DONE && missing != NULL) {
     missing->hashes = cg_missing_shown(g->hashes, out, have.bytes);
     missing->bytes = (size_t)bytes;
   }
