@@ -86,6 +86,21 @@ static uint32_t run_add(void) { return cg_hub_add(&graph, 0, &change, &told); }
 static uint32_t run_release(void) { return cg_hub_release(&graph, &queue, &batch, &told); }
 static uint32_t run_push(void) { return cg_hub_batch_push(&batch, 1, &change); }
 
+/* The 256th: the tables are filled once, and the count is put back. */
+static cg_waiting full;
+static uint32_t run_last_push(void) {
+  cg_queue queue_of_many = cg_queue_of(&full);
+  full.count[0] = CG_WAITING - 1;
+  return cg_hub_batch_push(&queue_of_many, 1, &change);
+}
+
+static void fill(void) {
+  for (size_t i = 0; i < CG_WAITING; i++) {
+    hash_of((uint32_t)(100000 + i), full.hashes + CG_HASH * i);
+    full.numbers[CG_NUMBERS * i] = 2, full.numbers[CG_NUMBERS * i + 1] = i + 1;
+  }
+}
+
 static uint32_t core_heads(void) { return bare_heads(TABLES, out, sizeof out); }
 static uint32_t core_owner(void) { return bare_owner(TABLES, 7, 2, out, CG_HASH); }
 static uint32_t core_clock(void) {
@@ -131,7 +146,8 @@ static const struct {
              {"has a tablet seen a change (`cg_remove_ancestors`)", run_ancestors, NULL},
              {"a change added (`cg_add`)", run_add, core_add},
              {"nothing is ready (`cg_release`)", run_release, NULL},
-             {"a change comes in (`cg_batch_push`), no graph", run_push, NULL}};
+             {"a change into an empty batch (`cg_batch_push`)", run_push, NULL},
+             {"a change into a batch of 255 (`cg_batch_push`)", run_last_push, NULL}};
 enum { CALLS = CG_LEN(calls) };
 
 /* A call's time, and its core's where there is one, else -1. */
@@ -160,6 +176,7 @@ int main(void) {
   static const size_t sizes[2] = {CG_BENCH_CHANGES, MOST};
   graph = cg_graph_of_hub(&hub), queue = cg_queue_of_hub(&hub), batch = cg_batch_of_hub(&hub);
   behind = DEVICES;
+  fill();
   for (int s = 0; s < 2; s++) {
     size = sizes[s] - 1;
     if (!measure(s)) {

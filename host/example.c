@@ -14,8 +14,8 @@
  *                                                  ^                   |
  *                                                  '---- waits on -----'
  *
- * A device keeps its change until the hub has said that it is added or waits; what is refused or was lost on the way it sends again. So nothing that is dropped here is lost, and
- * whatever is sent twice is noticed. */
+ * A device keeps its change until the hub has told it that the change is added or waits, and the hub tells it once that is saved. What is refused or was lost on the way the device
+ * sends again. So nothing that is dropped here is lost, and whatever is sent twice is noticed. */
 
 static cg_hub hub; /* all tables: below 2 MiB, nothing is allocated */
 static cg_keys keys;
@@ -36,41 +36,31 @@ static uint32_t open_hub(void) {
 /* A device comes. Actors stand in the order of their keys, so that numbers past it move; changes that wait have keys, which do not. */
 static uint32_t device(uint64_t key) { return cg_put_key(&graph, &keys, cg_place_of(&keys, key), key); }
 
+/* Notes what became of a change; the device is told once the record is saved. */
 static void say(const char *what, uint64_t key, const cg_change *change, uint32_t number) {
   printf("  %s: %c, device %u, sequence %u: %s\n", what, change->hash[0], (unsigned)key, (unsigned)change->sequence, cg_text(number));
 }
 
-/* Whether the sequence is one that the device has still to come to. */
-static int still_to_come(uint64_t key, uint64_t sequence) {
+/* What can never be added is refused at once; it would wait for nothing, and keep its device and sequence taken. */
+static uint32_t never_added(uint64_t key, const cg_change *change) {
   uint64_t last = 0;
-  return cg_actor_of(&keys, key) != CG_NOBODY && cg_hub_seq_for_actor(&graph, cg_actor_of(&keys, key), &last) == CG_DONE && sequence > last + 1;
-}
-
-typedef struct Placed {
-  unsigned added, waiting;
-} Placed;
-
-/* Adds a change that is ready. By now the hub has it nowhere else, so what is not added waits on or is said to be refused. */
-static void place(uint64_t key, const cg_change *change, Placed *placed) {
-  uint64_t unknown = 0;
-  uint32_t number = cg_hub_add(&graph, cg_actor_of(&keys, key), change, &unknown);
-  if (number == CG_DONE || number == CG_ALREADY_KNOWN) { /* known: accepted long ago */
-    placed->added++;
-    say("added", key, change, number);
-  } else if (number == CG_UNKNOWN_DEPENDENCY || (number == CG_WRONG_SEQUENCE && still_to_come(key, change->sequence))) {
-    /* The one before it is not there yet. Where there is no room to wait either, the device sends it again. */
-    uint32_t waits = cg_let_wait(&queue, key, change);
-    placed->waiting += waits == CG_DONE;
-    say(waits == CG_DONE ? "waits on" : "put off", key, change, number);
-    if (number == CG_UNKNOWN_DEPENDENCY) {
-      printf("    the first unknown one is %c\n", change->dependencies.hashes[CG_HASH * unknown]);
-    }
-  } else if (number == CG_NO_NODE_ROOM || number == CG_NO_EDGE_ROOM || number == CG_NOT_VALID) {
-    /* The record is full, or its tables were damaged (then the saved one is read): a person must act. */
-    say("STOP", key, change, number);
-  } else { /* the device has it wrong: nobody's, a sequence for the second time, ops that cannot be */
-    say("refused", key, change, number);
+  uint64_t actor = cg_actor_of(&keys, key);
+  uint32_t number = cg_hub_seq_for_actor(&graph, actor, &last);
+  if (number != CG_DONE || actor == CG_NOBODY) {
+    return number != CG_DONE ? number : CG_NO_ACTOR;
   }
+  if (change->sequence <= last) {
+    return CG_WRONG_SEQUENCE;
+  }
+  if (change->max_op > UINT32_MAX || change->op_count > change->max_op) {
+    return CG_WRONG_OPS;
+  }
+  for (size_t at = 0; at + CG_HASH <= change->dependencies.bytes; at += CG_HASH) {
+    if (memcmp(change->dependencies.hashes + at, change->hash, CG_HASH) == 0) {
+      return CG_UNKNOWN_DEPENDENCY;
+    }
+  }
+  return CG_DONE;
 }
 
 /* Whether the queue has the change already, or another of the same device and sequence: then handing the batch over would be refused whole. */
@@ -83,51 +73,115 @@ static uint32_t waits_already(uint64_t key, const cg_change *change) {
   return number == CG_DONE && yes == 1 ? CG_ALREADY_WAITING : number;
 }
 
-/* A change comes in: into the batch, unless it is known or waits. CG_ALREADY_KNOWN, also where the batch has it, is no fault: it came twice. CG_ALREADY_WAITING is none for the
- * same change; for another one of the same device and sequence it is the device's. With CG_NO_QUEUE_ROOM the batch is full: settle, and push again. */
+/* A change comes in: into the batch, unless it is known, can never be added, or waits. CG_ALREADY_KNOWN, also where the batch has it, is no fault: it came twice.
+ * CG_ALREADY_WAITING is none for the same change; for another one of the same device and sequence it is the device's. With CG_NO_QUEUE_ROOM the batch is full: settle, and push
+ * again. */
 static uint32_t receive(uint64_t key, const cg_change *change) {
   uint64_t yes = 0;
   uint32_t number = cg_hub_has_change(&graph, change->hash, &yes);
   if (number == CG_DONE && yes == 1) {
     return CG_ALREADY_KNOWN;
   }
-  if (number == CG_DONE) {
-    number = waits_already(key, change);
-  }
+  number = number == CG_DONE ? never_added(key, change) : number;
+  number = number == CG_DONE ? waits_already(key, change) : number;
   return number == CG_DONE ? cg_hub_batch_push(&batch, key, change) : number;
 }
 
-/* Places the first records of the batch's tables. */
-static Placed place_all(size_t records) {
-  Placed placed = {0, 0};
-  for (size_t i = 0; i < records; i++) {
-    cg_change change = cg_change_at(&batch, i);
-    place(cg_key_at(&batch, i), &change, &placed);
+/* What became of a record that is out of the queue: LATER is what may still be added, now or another time. */
+typedef enum Fate { LATER, ADDED, REFUSED } Fate;
+
+/* A round of adding: the sequence that comes next for each actor, 0 where it was not asked yet, and why the hub must stop, if it must. */
+typedef struct Round {
+  uint64_t next[CG_HUB_ACTORS];
+  uint32_t stop;
+} Round;
+
+/* Whether the device has still to come to the sequence. */
+static int still_to_come(uint64_t actor, uint64_t sequence, Round *round) {
+  uint64_t last = 0;
+  if (actor == CG_NOBODY) {
+    return 0;
   }
-  return placed;
+  if (round->next[actor] == 0 && cg_hub_seq_for_actor(&graph, actor, &last) == CG_DONE) {
+    round->next[actor] = last + 1;
+  }
+  return sequence > round->next[actor];
 }
 
-/* Hands the batch over, releases what is ready and adds it. Where the queue has no room for the batch, its changes are added past the queue: one of them may be what the queue waits
- * for. Released records are out of the queue and stand in the tables of the batch, which is empty by then. Release looks at dependencies alone, so a device's third may come before its
- * second: then it waits on, and once others were added it is released again. */
+static Fate place(uint64_t key, const cg_change *change, Round *round) {
+  uint64_t actor = cg_actor_of(&keys, key);
+  if (round->stop != CG_DONE || still_to_come(actor, change->sequence, round)) {
+    return LATER;
+  }
+  uint32_t number = cg_hub_add(&graph, actor, change, NULL);
+  switch (number) {
+  case CG_DONE:
+    round->next[actor]++;
+    say("added", key, change, number);
+    return ADDED;
+  case CG_ALREADY_KNOWN: /* accepted long ago */
+    say("added", key, change, number);
+    return ADDED;
+  case CG_UNKNOWN_DEPENDENCY: /* one that is not added yet, or not at all */
+    return LATER;
+  case CG_NO_NODE_ROOM:
+  case CG_NO_EDGE_ROOM:
+  case CG_NOT_VALID: /* the record is full, or its tables were damaged (then the saved one is read): a person must act */
+    round->stop = number;
+    return LATER;
+  default: /* its actor was taken away meanwhile */
+    say("refused", key, change, number);
+    return REFUSED;
+  }
+}
+
+/* Adds what can be added of the first records of the batch's tables; the rest waits on. Release looks at dependencies alone, so a device's third may stand before its second: it goes
+ * over them again while one more went in. Nothing is lost where the hub must stop: what is not added waits, and where there is no room to wait it was not told to any device. */
+static uint32_t place_all(size_t records) {
+  Fate fate[CG_WAITING] = {LATER};
+  Round round = {{0}, CG_DONE};
+  for (int more = 1; more;) {
+    more = 0;
+    for (size_t i = 0; i < records; i++) {
+      if (fate[i] == LATER) {
+        cg_change change = cg_change_at(&batch, i);
+        fate[i] = place(cg_key_at(&batch, i), &change, &round);
+        more |= fate[i] == ADDED;
+      }
+    }
+  }
+  for (size_t i = 0; i < records; i++) {
+    if (fate[i] == LATER) {
+      cg_change change = cg_change_at(&batch, i);
+      uint32_t number = cg_let_wait(&queue, cg_key_at(&batch, i), &change);
+      say(number == CG_DONE ? "waits on" : "sent again", cg_key_at(&batch, i), &change, number);
+    }
+  }
+  return round.stop;
+}
+
+/* Hands the batch over, releases what is ready and adds it. Where the queue does not take the batch, what can be added of it is added past the queue, since that may be what the queue
+ * waits for, and the rest is sent again. Released records are out of the queue and stand in the tables of the batch, which is empty by then. */
 static uint32_t settle(void) {
+  uint64_t records = 0;
   uint32_t number = cg_hub_hand_over(&queue, &batch);
-  if (number == CG_NO_QUEUE_ROOM) {
+  if (number == CG_NO_QUEUE_ROOM || number == CG_ALREADY_WAITING) {
     printf("  hand over: %s\n", cg_text(number));
-    place_all(hub.batch.count[0]);
+    uint32_t stop = place_all(hub.batch.count[0]);
     number = cg_hub_queue_open(&batch);
+    number = number == CG_DONE ? stop : number;
   }
-  Placed placed = {1, 1};
-  while (number == CG_DONE && placed.added > 0 && placed.waiting > 0) {
-    uint64_t records = 0;
+  if (number == CG_DONE) {
     number = cg_hub_release(&graph, &queue, &batch, &records);
-    placed = place_all((size_t)records);
   }
-  return number; /* here the record is saved: docs/SAVING.md */
+  if (number == CG_DONE) {
+    number = place_all((size_t)records);
+  }
+  return number; /* here the record is saved, and then the devices are told what was added and what waits: docs/SAVING.md */
 }
 
 /* What a tablet is missing, in the order in which it can take it. What came in is settled first; then the batch is empty, and the answer goes into its dependencies, which have room
- * for the longest. */
+ * for the longest. It is sent before the next change is received, which is written there. */
 static uint32_t missing(cg_list have, cg_list *answer) {
   uint32_t number = hub.batch.count[0] > 0 ? settle() : CG_DONE;
   return number == CG_DONE ? cg_hub_missing(&graph, have, hub.batch.deps, sizeof hub.batch.deps, answer) : number;
@@ -223,10 +277,15 @@ static void morning(void) {
   comes(600, 'f', 3, 6, "d"); /* its third, before its second */
   comes(500, 'g', 2, 7, "f");
   comes(800, 'h', 1, 7, "d"); /* nobody has this key */
+  comes(600, 'e', 2, 0, "d"); /* one op, and a max op of 0 */
+  comes(600, 'e', 2, 5, "e"); /* on itself */
   settled();
   comes(600, 'e', 2, 5, "d");
   settled();
   comes(600, 'i', 2, 8, "d"); /* its second, for the second time */
+  printf("device 900 comes: %s\n", cg_text(device(900)));
+  comes(900, 'j', 1, 8, "a");
+  printf("and goes before its change is added: %s\n", cg_text(cg_take_key(&graph, &keys, cg_actor_of(&keys, 900))));
   settled();
 
   printf("tablets ask\n");
@@ -271,7 +330,12 @@ static void refused(const char *what, uint32_t number) { printf("  %2u %s: %s\n"
 
 static uint32_t add(const cg_graph *g, uint64_t actor, char letter, uint64_t sequence, uint64_t max_op, uint64_t op_count, cg_list on) {
   cg_change change = {list(1, (char[2]){letter, 0}).hashes, sequence, max_op, op_count, on};
-  return cg_hub_add(g, actor, &change, NULL);
+  uint64_t unknown = 0;
+  uint32_t number = cg_hub_add(g, actor, &change, &unknown);
+  if (number == CG_UNKNOWN_DEPENDENCY) {
+    printf("     the first unknown one is %c:\n", on.hashes[CG_HASH * unknown]);
+  }
+  return number;
 }
 
 static void refusals_of_add(void) {

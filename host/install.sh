@@ -1,20 +1,25 @@
 #!/usr/bin/env bash
 # Puts what a C program needs under a prefix: host/install.sh PREFIX. Headers in include/, the archive in lib/, a file for pkg-config in lib/pkgconfig/, and in share/doc/changegraph/ the
-# pages that the headers name with the notice that goes with every copy. The archive is made first, unless it is newer than everything that it is made of.
+# pages that the headers name with the notice that goes with every copy. The archive is made first, unless nothing that it is made of changed since. No blanks in PREFIX: pkg-config's
+# words could not be used as below.
 #
 #     cc hub.c $(PKG_CONFIG_PATH=PREFIX/lib/pkgconfig pkg-config --cflags --libs changegraph)
 set -euo pipefail
 cd "$(dirname "$0")/.."
-if [ $# != 1 ] || [ -z "$1" ] || [ "${1#-}" != "$1" ]; then
-  echo "usage: host/install.sh PREFIX" >&2
+case "$#${1:-}" in 1 | 1-* | 1*[[:space:]]* | [!1]*)
+  echo "usage: host/install.sh PREFIX (a folder, without blanks in its name)" >&2
   exit 2
-fi
+  ;;
+esac
 prefix="$1"
 case "$prefix" in /*) ;; *) prefix="$OLDPWD/$prefix" ;; esac
 
 archive=target/libchangegraph.a
-if [ ! -f "$archive" ] || [ -n "$(find crates crates.txt -newer "$archive" -print -quit)" ]; then
+if [ ! -f "$archive" ] || [ -n "$(find crates crates.txt host/archive.sh -newer "$archive" -print -quit)" ]; then
+  began="$(mktemp)"
   host/archive.sh
+  touch -r "$began" "$archive" # what changes while it is made counts as newer
+  rm -f "$began"
 fi
 pages="$prefix/share/doc/changegraph"
 mkdir -p "$prefix/include" "$prefix/lib/pkgconfig" "$pages"

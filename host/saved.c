@@ -276,7 +276,7 @@ static int ends_right(In *in) {
   return take(in, &sum, sizeof sum) && sum == right && in->at == in->held && !filled(in) && !in->failed;
 }
 
-/* Bytes between head and checksum. Counts that are nonsense make a length that no file has, and the sum does not overflow. */
+/* Bytes between head and checksum. Whatever the counts are, the sum does not overflow. */
 static uint64_t parts_of(const Head *head) {
   return (uint64_t)head->changes * (CG_HASH + sizeof(uint32_t) * CG_NODE) + (uint64_t)head->edges * sizeof(cg_edge) + (uint64_t)head->actors * sizeof(uint64_t) +
          (uint64_t)head->waiting * (CG_HASH + sizeof(uint64_t) * CG_NUMBERS) + (uint64_t)head->dependencies * CG_HASH;
@@ -293,15 +293,19 @@ static int have_room(const Head *head, const cg_graph *g, const cg_queue *q) {
          head->changes <= g->hashes_len / CG_HASH && head->edges <= g->edges_len && head->waiting <= q->hashes_len / CG_HASH;
 }
 
-/* The first pass: what is wrong with the file, and nothing lent is touched. */
+/* The first pass: what is wrong with the file, and nothing lent is touched. Its length is asked before it is read: nonsense in the counts may make a very long one. */
 static int looked_over(In *in, Head *head, const cg_graph *g, const cg_queue *q) {
+  struct stat is;
   if (!take(in, head, sizeof *head)) {
     return in->failed ? SAVED_SYSTEM : SAVED_TORN;
   }
   if (memcmp(head->magic, empty_head.magic, sizeof head->magic) != 0 || head->version != empty_head.version || head->order != empty_head.order) {
     return SAVED_NOT_OURS;
   }
-  if (!take(in, NULL, parts_of(head)) || !ends_right(in)) {
+  if (fstat(in->file, &is) != 0) {
+    return SAVED_SYSTEM;
+  }
+  if ((uint64_t)is.st_size != sizeof *head + parts_of(head) + sizeof in->sum || !take(in, NULL, parts_of(head)) || !ends_right(in)) {
     return in->failed ? SAVED_SYSTEM : SAVED_TORN;
   }
   return have_room(head, g, q) ? SAVED_DONE : SAVED_TOO_LARGE;

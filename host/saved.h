@@ -30,9 +30,9 @@ const char *saved_text(int answer);
  * one back. */
 int saved_write(const char *path, const cg_graph *g, const cg_queue *q, const cg_keys *keys);
 
-/* Reads the record at the path into the tables, whatever they held, and sets the keys. No clock is cached then, which changes no answer. SAVED_NOT_VALID leaves an empty graph
- * without actors, an empty queue and no keys; that is also the answer where the file was read once and could not be read again. After every other answer but SAVED_DONE all
- * lent memory is as it was. */
+/* Reads the record at the path into the tables, whatever they held, and sets the keys. No clock is cached then, which changes no answer. A batch that was filled for another
+ * queue is to be opened again. SAVED_NOT_VALID leaves an empty graph without actors, an empty queue and no keys; that is also the answer where the file was read once and could not
+ * be read again. After every other answer but SAVED_DONE all lent memory is as it was. After any but SAVED_DONE and SAVED_NO_FILE do not save to the path: docs/SAVING.md. */
 int saved_read(const char *path, const cg_graph *g, const cg_queue *q, cg_keys *keys);
 
 #ifdef __cplusplus

@@ -86,9 +86,12 @@ if $CC $CFLAGS -c target/host/ignored.c -o target/host/ignored.o 2>target/host/s
   exit 1
 fi
 if need g++ g++; then
-  for level in -O0 -O2 -O3; do
-    g++ -std=c++11 "$level" -Wall -Wextra -Werror -Iinclude -x c++ -c host/fresh.c -o target/host/fresh.o
+  for standard in c++11 c++17 c++20; do
+    for level in -O0 -O1 -O2 -O3 -Os; do
+      g++ "-std=$standard" "$level" -Wall -Wextra -Werror -Iinclude -x c++ -c host/fresh.c -o target/host/fresh.o
+    done
   done
+  ran "the headers as C and as C++"
 else
   left_out "the headers as C++"
 fi
@@ -96,7 +99,7 @@ fi
   $1 == "U" { used[$2] = 1 }
   $2 ~ /^[TDBRVW]$/ { defined[$3] = 1 }
   END { for (name in used) if (!(name in defined)) if (name == "memcpy" || name == "memset") met++; else { print "the archive needs " name; wrong++ }; exit met != 2 || wrong > 0 }'
-echo "headers: C and C++ without a warning; the archive needs memcpy and memset"
+echo "headers: no warning; the archive needs memcpy and memset"
 
 # A hub in small, here and built from the place where it was installed; and the session's tool on lists that are right.
 $CC $CFLAGS host/example.c target/libchangegraph.a -o target/host/example
@@ -108,11 +111,11 @@ if need pkg-config pkg-config; then
   built="$(PKG_CONFIG_PATH="$PWD/target/host/moved/lib/pkgconfig" pkg-config --cflags --libs changegraph)"
   $CC ${CFLAGS/-Iinclude/} target/host/moved/share/doc/changegraph/example.c $built -o target/host/moved/example
   $RUN target/host/moved/example | cmp - host/example.out
-  ran "the headers as C and C++, the example, and the example built from an installed place"
+  ran "the example built from an installed place"
 else
   left_out "the example built from an installed place"
 fi
-echo "example: writes what host/example.out has, from an installed place too"
+echo "example: writes what host/example.out has"
 $CC $CFLAGS host/session.c host/reasons.c target/libchangegraph.a -o target/host/session
 for list in worked worked-clocks unchained; do
   $RUN target/host/session "examples/$list.list" | cmp - "examples/$list.answer"

@@ -13,7 +13,7 @@
  * What an answer tells beside its number stands in a place of 64-bit numbers, `told_` and what it is: told_bytes[0] is bytes, told_entries[0] entries, told_yes[0] 1 or 0.
  * The place is written with CG_DONE alone (the exceptions are above); places past the first stay; of length 0 it is not wanted, which is no refusal.
  *
- * Stack. A thread that calls needs CG_STACK_BYTES of it; docs/MEMORY.md has what each function takes. In a thread of 128 KiB every function that is lent a graph crashes.
+ * Stack. A thread that calls needs CG_STACK_BYTES of it; docs/MEMORY.md has what each function takes. In a thread of 128 KiB every function that is lent a graph crashes, but cg_open.
  *
  * Threads. Nothing is kept between calls and nothing is shared but what is lent. So calls on different tables may run at the same time, and so may calls that only read
  * the same ones (`const`); a call that writes a table must be alone with it, in a signal handler too. A call that is ended in the middle leaves what it writes half written.
@@ -51,7 +51,7 @@ enum {
   CG_DONE = 0,                /* done */
   CG_NOT_VALID = 1,           /* lent tables, queue or clock not valid, or two clocks of different lengths to compare */
   CG_MALFORMED = 2,           /* a hash is not 32 bytes, or a list of hashes no multiple of 32 */
-  CG_ALREADY_KNOWN = 3,       /* the hash is known: the change counts as accepted, nothing changes */
+  CG_ALREADY_KNOWN = 3,       /* the hash is known: the change counts as accepted, nothing changes; cg_batch_push: the batch has it */
   CG_UNKNOWN_DEPENDENCY = 4,  /* a dependency is unknown; the first in the order listed is named */
   CG_NO_ACTOR = 5,            /* no such actor */
   CG_WRONG_SEQUENCE = 6,      /* the sequence is not the actor's count plus 1 */
@@ -79,7 +79,8 @@ enum {
  *   clocks   N * A numbers           row k: the cached clock of change k, or zeros
  *   counts   3 numbers               changes, edges, actors in use
  *
- * What lies past the used parts is never read, and changes only when it is taken into use. Each function checks all tables that it is lent. */
+ * No answer depends on what lies past the used parts, and it keeps its value until it is taken into use. (The edge table is read whole, and written back as it was by functions that
+ * may change it.) Each function checks all tables that it is lent. */
 
 enum {
   CG_HUB_CHANGES = 4096,
@@ -93,6 +94,8 @@ enum {
   CG_COUNTS = 3,        /* numbers of the counts */
   CG_DEPENDENCIES = 32, /* dependencies of one change at most */
   CG_WAITING = 256,     /* waiting changes at most, and as many in a batch */
+  CG_NUMBERS = 5,       /* numbers of a waiting change */
+  CG_DEPS = 32 * 32,    /* bytes for its dependencies */
   CG_RECORD = 32 + 5 * 8 + 1024 /* bytes of a waiting change */
 };
 
@@ -295,11 +298,6 @@ CG_ANSWER cg_forget(const uint8_t *hashes, size_t hashes_len, const uint32_t *no
  * the same forms and any room, the first record at the front: a record's own dependencies are written, the other bytes of its row stay, and so do all rows past
  * the last. So the tables of an empty batch may take what is released; the batch stays empty, and pushing to it writes over them. */
 
-enum {
-  CG_NUMBERS = 5,       /* numbers of a waiting change */
-  CG_DEPS = 32 * 32     /* bytes for its dependencies */
-};
-
 /* Opens an empty queue or batch: sets the count to 0 and nothing else. The tables may hold anything; only their lengths are checked. (Not `const`, as with cg_open.)
  * CG_DONE, CG_NOT_VALID. */
 CG_ANSWER cg_queue_open(uint8_t *hashes, size_t hashes_len, uint64_t *numbers, size_t numbers_len, uint8_t *deps, size_t deps_len,
@@ -346,7 +344,7 @@ CG_ANSWER cg_remove_actor_branch_from(uint8_t *hashes, size_t hashes_len, uint64
 /* Releases every change that is ready against a graph: hands them out, each after what it depends on, and tells how many. Ready is what depends only on the graph's
  * changes and on other ready ones. The rest closes up and keeps its order. The graph itself is not changed. Nothing but dependencies is looked at: a released change may still
  * be refused by cg_add, most often with CG_WRONG_SEQUENCE, where its actor's change before it is not there yet; what depends on it is then CG_UNKNOWN_DEPENDENCY. It is out
- * of the queue; one that may be added later is pushed and handed over again. CG_DONE, CG_NOT_VALID (graph or queue), CG_SHORT_BUFFER (one of the three tables cannot hold
+ * of the queue; one that may be added later is pushed and handed over again, in a batch that it does not stand in. CG_DONE, CG_NOT_VALID (graph or queue), CG_SHORT_BUFFER (one of the three tables cannot hold
  * them all whole; none is released then), in this order. */
 CG_ANSWER cg_release(const uint8_t *hashes, size_t hashes_len, const uint32_t *nodes, size_t nodes_len, const cg_edge *edges, size_t edges_len,
                      const uint32_t *clocks, size_t clocks_len, const uint32_t *counts, size_t counts_len, uint8_t *queue_hashes,

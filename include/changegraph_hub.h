@@ -12,18 +12,23 @@
  *
  * A graph or a queue of other room has its own tables: fill a cg_graph or a cg_queue with their pointers and lengths.
  *
- * The way of a change that comes in:
- *   1. Refuse what would wait for nothing: a device without an actor (cg_actor_of gives CG_NOBODY), a sequence that it has had (cg_hub_seq_for_actor). Ask whether the graph
- *      has the hash (cg_hub_has_change) or the queue (cg_hub_queue_has_hash): then it came before. Ask whether another one of its device and sequence waits
- *      (cg_hub_queue_has_actor_seq): then the device has it wrong. A hash stands for its change; that two changes come with one hash is not found out here.
- *   2. cg_hub_batch_push, one or many; then cg_hub_hand_over (for one change alone cg_let_wait is both). CG_NO_QUEUE_ROOM leaves the batch as it was: add what of it can be
- *      added, which may be what the queue waits for, and open the batch again.
+ * The way of a change that comes in. A device keeps its change until the hub has told it that the change is added or waits, and the hub tells it once that is saved; what is refused or
+ * was lost on the way it sends again.
+ *   1. Ask whether the graph has the hash (cg_hub_has_change) or the queue (cg_hub_queue_has_hash): then it came before. Refuse what could never be added: a device without an
+ *      actor (cg_actor_of gives CG_NOBODY), a sequence that it has had (cg_hub_seq_for_actor), ops of CG_WRONG_OPS, a change on itself; and one of whose device and sequence another
+ *      one waits (cg_hub_queue_has_actor_seq). A hash stands for its change; that two changes come with one hash is not found out here.
+ *   2. cg_hub_batch_push, one or many; then cg_hub_hand_over (for one change alone cg_let_wait is both). A refusal, CG_NO_QUEUE_ROOM or CG_ALREADY_WAITING, leaves the batch as
+ *      it was: add what of it can be added, which may be what the queue waits for, tell the devices of the rest, and open the batch again.
  *   3. cg_hub_release into the tables of the batch, which is empty now.
- *   4. cg_hub_add each record (cg_change_at), for the actor of its key (cg_actor_of), in their order. One that is refused with CG_UNKNOWN_DEPENDENCY, or with CG_WRONG_SEQUENCE
- *      since its device's one before it is still to come, may wait on (cg_let_wait). From 3 again, until a round adds nothing or leaves nothing waiting on.
+ *   4. cg_hub_add each record (cg_change_at), for the actor of its key (cg_actor_of), in their order, and once more those before a record that went in. What is refused with
+ *      CG_UNKNOWN_DEPENDENCY, with CG_WRONG_SEQUENCE since its device's one before it is still to come, or for want of room waits on (cg_let_wait).
  * A change that can never be added keeps its device and sequence taken while it waits; cg_hub_remove_actor_branch_from drops it, with all that follows it.
  *
- * Long answers may go into the tables of the empty batch too: its `deps` hold every list of hashes. So a hub is below 2 MiB with its answers (docs/MEMORY.md).
+ * Long answers may go into the tables of the empty batch too: its `deps` hold every list of hashes, until the next push or release. So a hub is below 2 MiB with its answers
+ * (docs/MEMORY.md).
+ *
+ * Threads: `const` here is of the struct of pointers. The tables are written by cg_hub_open, add, insert_actor, remove_actor, forget and load, by cg_put_key and cg_take_key; queue and
+ * batch by cg_hub_queue_open, batch_push, hand_over, remove_actor_branch_from and release, by cg_let_wait; the tables `to` by release and queue_iter. All other calls only read.
  *
  * A place for what is told is a pointer to one number here, and null where it is not wanted. It is written with CG_DONE alone, but for told_unknown of cg_hub_add and
  * told_bytes of cg_hub_session. A hash is a pointer to 32 bytes. cg_text has a number's words.
