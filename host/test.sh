@@ -104,6 +104,25 @@ echo "headers: no warning; the archive needs memcpy and memset"
 # A hub in small, here and built from the place where it was installed; and the session's tool on lists that are right.
 $CC $CFLAGS host/example.c target/libchangegraph.a -o target/host/example
 $RUN target/host/example | cmp - host/example.out
+$CC $CFLAGS host/example_test.c target/libchangegraph.a -o target/host/example_test
+$RUN target/host/example_test
+# It notices a hub that is wrong: what is wrong with it, and how example.c becomes so.
+wrong_hub() {
+  sed "$2" host/example.c >"$other/host/example.c"
+  if cmp -s host/example.c "$other/host/example.c"; then
+    echo "a hub $1 can no longer be made of host/example.c" >&2
+    exit 1
+  fi
+  $CC $CFLAGS "$other/host/example_test.c" target/libchangegraph.a -o "$other/example_test"
+  if $RUN "$other/example_test" >"$other/said" 2>&1 || ! grep -q '^failed: ' "$other/said"; then
+    echo "example_test does not notice a hub $1" >&2
+    exit 1
+  fi
+}
+wrong_hub "that drops what it released and cannot add yet" 's/= cg_let_wait(&queue, cg_key_at(&batch, i), &change)/= CG_NO_QUEUE_ROOM/'
+wrong_hub "that takes one device for another" 's/uint64_t actor = cg_actor_of(&keys, key);/uint64_t actor = cg_actor_of(\&keys, key) \& 1;/'
+wrong_hub "that drops what the record has no room for" 's/round->stop = number;/return REFUSED;/'
+echo "with a hub that is wrong in one of 3 ways example_test fails"
 if need pkg-config pkg-config; then
   rm -rf target/host/installed target/host/moved
   host/install.sh target/host/installed
