@@ -1,7 +1,11 @@
 /* Tests the hub of example.c, since it is there to be copied. Devices come at random times and each has its changes; the line delivers them in any order, twice, and with errors; the hub
  * settles now and then. What a device was told to be added or to wait must from then on be in the graph or in the queue; whatever was not told is sent again. At the end the graph
- * has every change, for the device that made it. In some rounds the queue is full for a while, in some the record has not room for all: then nothing that was told is lost either. */
+ * has every change, for the device that made it. In some rounds the queue is full for a while, in some the record has not room for all: then nothing that was told is lost either.
+ *
+ *     example_test [ROUNDS]
+ */
 #include <stdio.h>
+#include <stdlib.h>
 
 /* The hub writes nothing here. */
 static int quiet(const char *format, ...) {
@@ -152,8 +156,9 @@ static void play(int late, int small) {
   expect(!late || most == CG_WAITING, "the queue was full");
 }
 
-int main(void) {
-  for (int round = 0; round < ROUNDS; round++) {
+int main(int argc, char **argv) {
+  int rounds = argc > 1 ? atoi(argv[1]) : ROUNDS;
+  for (int round = 0; round < rounds; round++) {
     play(round % 3 == 1, round % 4 == 3);
   }
   return summed_up("the example's hub");
