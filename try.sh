@@ -59,7 +59,7 @@ tool() {
     RT_JOBS=1 rt staticlib session >target/prove.log 2>&1 || return 1
   fi
   mkdir -p target/host
-  "$cc" -std=c11 -O2 host/session.c host/reasons.c target/staticlib/libsession.a -o target/host/explain || return 1
+  "$cc" -std=c11 -O2 -Iinclude host/session.c host/reasons.c target/staticlib/libsession.a -o target/host/explain || return 1
 }
 explained() { # WORD..
   local sysroot=""
