@@ -527,6 +527,25 @@ static void nothing_waits(void) {
   expect(cg_session(NONE, NONE, NONE) == CG_SHORT_BUFFER && cg_session(NONE, ours.text, 6, NONE) == CG_DONE, "an empty list");
 }
 
+/* The counts too: no tables at all are not valid, whoever is asked. */
+static void no_counts(void) {
+  uint32_t count[1] = {0};
+#define N NONE, NONE, NONE, NONE, NONE
+#define W N_RECORDS, NONE
+  const uint32_t numbers[] = {
+      cg_open(N, 0), cg_add(N, names[0], 32, 0, 1, 1, 1, NONE, NONE), cg_insert_actor(N, 0), cg_remove_actor(N, 0), cg_forget(N),
+      cg_load(N, NONE, NONE, NONE, NONE, NONE, NONE, NONE, NONE, 0), cg_clock_of(N, NONE, NONE, NONE), cg_clock_at(N, NONE, NONE, NONE), cg_missing(N, NONE, NONE, NONE),
+      cg_heads(N, NONE, NONE), cg_head_indexes(N, NONE, NONE), cg_heads_are_current(N, NONE, NONE), cg_owner(N, 0, 1, NONE, NONE), cg_index_to_hash(N, 0, NONE, NONE),
+      cg_get_hash_for_actor_seq(N, 0, 1, NONE, NONE), cg_hash_to_index(N, names[0], 32, NONE), cg_has_change(N, names[0], 32, NONE), cg_seq_for_actor(N, 0, NONE),
+      cg_max_op_for_actor(N, 0, NONE), cg_max_op(N, NONE), cg_len(N, NONE), cg_num_actors(N, NONE), cg_actor_ids(N, 2, NONE, NONE), cg_deps_for_hash(N, names[0], 32, NONE, NONE),
+      cg_remove_ancestors(N, NONE, NONE, NONE, NONE), cg_chained(N, NONE), cg_queue_open(W), cg_batch_push(W, names[0], 32, 1, 1, 1, 1, NONE), cg_hand_over(W, W),
+      cg_hand_over(N_QUEUE, W), cg_queue_is_empty(W, NONE), cg_queue_has_hash(W, names[0], 32, NONE), cg_queue_has_actor_seq(W, 1, 1, NONE), cg_queue_iter(W, N_RECORDS, NONE),
+      cg_remove_actor_branch_from(W, 1, 1), cg_release(N, W, N_RECORDS, NONE), cg_release(N, N_QUEUE, N_RECORDS, NONE)};
+  for (size_t i = 0; i < CG_LEN(numbers); i++) {
+    expect(numbers[i] == CG_NOT_VALID, "no counts");
+  }
+}
+
 int main(int argc, char **argv) {
   steps(argc > 1 ? atol(argv[1]) : STEPS);
   keys_and_numbers();
@@ -536,5 +555,6 @@ int main(int argc, char **argv) {
   words();
   nothing_in_the_graph();
   nothing_waits();
+  no_counts();
   return summed_up("the hub's header");
 }
