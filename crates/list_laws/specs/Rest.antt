@@ -1,6 +1,6 @@
 -- A list that is written or read one by one: what its rest from c on says of it.
-use Rattle.std.specs.Prelude.{◌≡◌, refl, ℕ, suc, ◌+◌, ◌<◌, ◌≤◌, List, [], ◌∷◌, length, drop, get_or, set}
-use Rattle.std.proofs.Common.{sym, ap, ◌∙◌, add-one, arith, length-drop, drop-cons}
+use Rattle.std.specs.Prelude.{◌≡◌, ℕ, ◌+◌, ◌<◌, ◌≤◌, List, [], ◌∷◌, length, drop, get_or, set}
+use Rattle.std.proofs.Common.{ap, add-one, arith, length-drop, drop-cons}
 use Rattle.list_laws.specs.Blend.{blend, blend_set}
 
 module _ (l : List ℕ) (c x : ℕ) (rest : List ℕ) (e : drop c l ≡ x ∷ rest) where

@@ -1,15 +1,15 @@
 -- The ascending list of hashes: it ascends strictly, and holds exactly the listed hashes.
 -- Assumes nothing.
-use mathlib.Core.Path.{◌≡◌, refl, sym, ap, ap₂, ◌∙◌, subst}
-use mathlib.Core.Logic.{◌⊎◌, inl, inr, ⊎_elim}
-use mathlib.Core.Bool.{Bool, true, false, cond, ◌&&◌, ◌||◌}
-use mathlib.Core.List.{List, [], ◌∷◌, map}
-use Prim.Native.Nat.{ℕ, suc, ◌+◌, ◌≤◌, ◌<◌}
+use mathlib.Core.Path.{◌≡◌, refl, sym, ap, ◌∙◌, subst}
+use mathlib.Core.Logic.{⊎_elim}
+use mathlib.Core.Bool.{Bool, true, false, cond, ◌||◌}
+use mathlib.Core.List.{List, [], ◌∷◌}
+use Prim.Native.Nat.{ℕ, ◌+◌, ◌≤◌}
 use native.Mathlib.Omega.{arith}
 use lib.ListN.{length}
-use Rattle.paper.specs.Lists.{same_list, less_list, names, enter, ascending, every, keep}
-use Rattle.paper.proofs.Bools.{by_bool, not-both, to_false, same_bool, or_cases, or_left, or_right, and_both}
-use Rattle.paper.proofs.Hashes.{same_refl, same→eq, eq→same, less_irrefl, less_trans, less_total, every_of, of_every}
+use Rattle.paper.specs.Lists.{same_list, less_list, names, enter, ascending, every}
+use Rattle.paper.proofs.Bools.{by_bool, not-both, to_false, same_bool, or_cases, and_both}
+use Rattle.paper.proofs.Hashes.{same→eq, eq→same, less_irrefl, less_trans, less_total, every_of, of_every}
 
 -- each is below those after it
 unfoldable pub Ascends : List (List ℕ) → Type 0

@@ -1,18 +1,18 @@
 -- The laws of the limited walk's leftovers, and of the caching rule.
 -- Assumes nothing.
-use mathlib.Core.Path.{◌≡◌, refl, sym, ap, ap₂, ◌∙◌, subst}
-use mathlib.Core.Logic.{◌⊎◌, inl, inr, ⊎_elim}
-use mathlib.Core.Bool.{Bool, true, false, cond, ◌&&◌, ◌||◌}
+use mathlib.Core.Path.{◌≡◌, refl, sym, ap, ap₂, ◌∙◌}
+use mathlib.Core.Logic.{⊎_elim}
+use mathlib.Core.Bool.{Bool, true, false, ◌&&◌, ◌||◌}
 use mathlib.Core.List.{List, [], ◌∷◌, ◌++◌}
 use Prim.Native.Nat.{ℕ, zero, suc, ◌+◌, ◌≤◌, ◌<◌}
 use native.Mathlib.Nat.{not-suc-le-zero}
 use native.Mathlib.Omega.{arith}
-use lib.Dec.{eqb, ltb, leb}
-use borrow.Author.Tests.{eqb-true, eqb-false, eq-eqb, ne_eqb, leb-true, leb-false, le-leb, lt-leb}
+use lib.Dec.{eqb, leb}
+use borrow.Author.Tests.{eqb-true, eq-eqb, ne_eqb, leb-true, leb-false, le-leb, lt-leb}
 use Rattle.paper.specs.Lists.{mem, pick}
 use Rattle.paper.specs.Graph.{Graph, look}
 use Rattle.paper.specs.Caching.{left_over, in_turn, cached_to, cached_after}
-use Rattle.paper.proofs.Bools.{by_bool, not-both, to_false, or_cases, or_left, or_right, below_or_not, mem_nil, pick_ext, pick_mem}
+use Rattle.paper.proofs.Bools.{by_bool, not-both, or_left, or_right, below_or_not, mem_nil, pick_ext, pick_mem}
 use Rattle.paper.proofs.History.{look_at}
 
 module _ (g : Graph) (limit : ℕ) where

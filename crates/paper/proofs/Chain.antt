@@ -4,17 +4,16 @@ use mathlib.Core.Path.{◌≡◌, refl, sym, ap, ap₂, ◌∙◌, subst}
 use mathlib.Core.Logic.{◌⊎◌, inl, inr, ⊎_elim, ◌↔◌}
 use mathlib.Core.Bool.{Bool, true, false, not, cond, ◌&&◌, ◌||◌, and-or_distrib_left, or-and_distrib_left}
 use mathlib.Core.List.{List, [], ◌∷◌, ◌++◌}
-use Prim.Native.Nat.{ℕ, zero, suc, ◌+◌, ◌-◌, ◌≤◌, ◌<◌, max, min}
-use native.Mathlib.Nat.{not-suc-le-zero, eq-or-lt_of_le, le_of_suc-le-suc}
+use Prim.Native.Nat.{ℕ, zero, suc, ◌+◌, ◌-◌, ◌≤◌, ◌<◌, min}
 use native.Mathlib.Omega.{arith}
 use lib.Dec.{eqb, ltb, leb}
-use borrow.Author.Tests.{ltb-true, ltb-false, lt-ltb, le-ltb, leb-true, leb-false, le-leb, lt-leb, eqb-true, eqb-false, eq-eqb}
+use borrow.Author.Tests.{ltb-true, ltb-false, lt-ltb, le-ltb, leb-true, leb-false, eqb-true, eq-eqb}
 use Rattle.paper.specs.Lists.{mem, pick, tally, sum_below}
 use Rattle.paper.specs.Graph.{Graph, hist, top, Held, clock_of, clock, Covers, above, missing, shared, ValidGraph, Precedes, ChainedOld, Chained}
 use Rattle.paper.specs.ProofWords.{Closed}
-use Rattle.paper.proofs.Bools.{split, by_bool, not-both, to_false, same_bool, or_cases, or_left, or_right, and_both, and_fst, and_snd, not_is, is_not, below_suc, mem_here, mem_single, mem_pick, pick_mem, pick_ext, tally_ext, tally_up, tally_place, sum_ext, sum_add, sum_zero, sum_one}
+use Rattle.paper.proofs.Bools.{split, by_bool, not-both, same_bool, or_cases, or_right, and_both, and_fst, and_snd, not_is, mem_here, mem_single, mem_pick, pick_mem, pick_ext, tally_ext, tally_up, tally_place, sum_ext, sum_add, sum_zero, sum_one}
 use Rattle.paper.proofs.History.{hist_least, hist_start, hist_known, hist_closed}
-use Rattle.paper.proofs.Clock.{top_upper, top_least, top_attained, top_mono, clock_upper, clock_attained, clock_least, hist_append, hist_node}
+use Rattle.paper.proofs.Clock.{top_upper, top_attained, top_mono, clock_upper, clock_attained, clock_least, hist_append, hist_node}
 
 sum_test : (b : Bool) (x A : ℕ) → x < A → sum_below (λ a. cond (b && eqb x a) 1 0) A ≡ cond b 1 0
 sum_test true x A l = sum_one x A l

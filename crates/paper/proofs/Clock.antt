@@ -1,17 +1,17 @@
 -- Sequence clocks: the upper bound and that it is attained, joining, and the recurrence of a walk.
 -- Assumes nothing.
-use mathlib.Core.Path.{◌≡◌, refl, sym, ap, ◌∙◌, subst, fun_ext}
+use mathlib.Core.Path.{◌≡◌, refl, sym, ap, ◌∙◌, subst}
 use mathlib.Core.Logic.{◌⊎◌, inl, inr, ⊎_elim}
-use mathlib.Core.Bool.{Bool, true, false, not, cond, ◌&&◌, ◌||◌}
+use mathlib.Core.Bool.{Bool, true, ◌&&◌, ◌||◌}
 use mathlib.Core.List.{List, [], ◌∷◌, ◌++◌}
-use Prim.Native.Nat.{ℕ, zero, suc, ◌+◌, ◌≤◌, ◌<◌, max, min}
-use native.Mathlib.Nat.{not-suc-le-zero, eq-or-lt_of_le, le_of_suc-le-suc, max-le, le-max_left, le-max_right}
+use Prim.Native.Nat.{ℕ, zero, suc, ◌≤◌, ◌<◌, max}
+use native.Mathlib.Nat.{not-suc-le-zero}
 use native.Mathlib.Omega.{arith}
-use lib.Dec.{eqb, ltb, leb}
-use borrow.Author.Tests.{ltb-true, lt-ltb, leb-true, leb-false, eqb-true, eqb-false, eq-eqb}
+use lib.Dec.{eqb, leb}
+use borrow.Author.Tests.{leb-true, leb-false, eqb-true, eqb-false, eq-eqb}
 use Rattle.paper.specs.Lists.{mem}
-use Rattle.paper.specs.Graph.{Graph, own, look, pass, known, hist, top, Held, clock_of, clock, Covers, ValidGraph}
-use Rattle.paper.proofs.Bools.{split, by_bool, not-both, to_false, same_bool, or_cases, or_left, or_right, and_both, and_fst, and_snd, below_suc, mem_here, mem_cons, mem_single, mem_append}
+use Rattle.paper.specs.Graph.{Graph, own, hist, top, Held, clock_of, clock, ValidGraph}
+use Rattle.paper.proofs.Bools.{by_bool, same_bool, or_cases, or_left, or_right, and_both, and_fst, and_snd, below_suc, mem_here, mem_single, mem_append}
 use Rattle.paper.proofs.History.{hist_least, hist_start, hist_known, hist_closed}
 
 -- ---- the clock of a set of nodes

@@ -1,17 +1,15 @@
 -- Nodes that are added after the others leave every history, clock and dependency of the others as they were.
 -- Assumes nothing.
-use mathlib.Core.Path.{◌≡◌, refl, sym, ap, ap₂, ◌∙◌, subst}
+use mathlib.Core.Path.{◌≡◌, sym, ap, ap₂, ◌∙◌}
 use mathlib.Core.Bool.{Bool, true, false, ◌||◌}
-use mathlib.Core.List.{List, [], ◌∷◌, ◌++◌}
-use mathlib.Core.Logic.{⊎_elim}
-use Prim.Native.Nat.{ℕ, zero, suc, ◌+◌, ◌≤◌, ◌<◌, max}
-use native.Mathlib.Nat.{eq-or-lt_of_le, le_of_suc-le-suc}
+use mathlib.Core.List.{List, [], ◌∷◌}
+use Prim.Native.Nat.{ℕ, suc, ◌≤◌, ◌<◌, max}
 use lib.Dec.{eqb}
 use native.Mathlib.Omega.{arith}
 use Rattle.paper.specs.Lists.{mem, tally, some_below}
-use Rattle.paper.specs.Graph.{Graph, own, hist, clock, wanted, ValidGraph, Precedes, Chained}
+use Rattle.paper.specs.Graph.{Graph, own, hist, clock, wanted, ValidGraph, Chained}
 use Rattle.paper.specs.ProofWords.{Extends}
-use Rattle.paper.proofs.Bools.{same_bool, by_bool, not-both, to_false, or_cases, or_left, or_right, below_suc, mem_single, tally_ext, some_ext, of_some}
+use Rattle.paper.proofs.Bools.{same_bool, to_false, below_suc, tally_ext, some_ext, of_some}
 use Rattle.paper.proofs.History.{hist_least, hist_start, hist_known, hist_closed}
 use Rattle.paper.proofs.Clock.{clock_upper, clock_least, clock_node}
 use Rattle.paper.proofs.Chain.{chained_clock, clock_chained}

@@ -1,13 +1,13 @@
 -- The heads' history is the whole graph.
 -- Assumes nothing.
-use mathlib.Core.Path.{◌≡◌, refl, sym, ap, ◌∙◌, subst}
-use mathlib.Core.Bool.{Bool, true, false, not}
-use mathlib.Core.List.{List, [], ◌∷◌, ◌++◌}
+use mathlib.Core.Path.{◌≡◌, ap}
+use mathlib.Core.Bool.{true, false, not}
+use mathlib.Core.List.{List}
 use Prim.Native.Nat.{ℕ, zero, suc, ◌+◌, ◌≤◌, ◌<◌}
 use native.Mathlib.Omega.{arith}
 use lib.Dec.{eqb, ltb}
 use borrow.Author.Tests.{ltb-true, ltb-false}
-use Rattle.paper.specs.Lists.{mem, pick, tally}
+use Rattle.paper.specs.Lists.{mem, tally}
 use Rattle.paper.specs.Graph.{Graph, hist, clock, wanted, head_nodes, ValidGraph}
 use Rattle.paper.proofs.Bools.{by_bool, not_is, mem_pick, of_some}
 use Rattle.paper.proofs.History.{hist_start, hist_closed}

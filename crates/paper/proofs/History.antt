@@ -1,17 +1,17 @@
 -- The history by marks is the least set that holds the known starts and is closed under dependencies.
 -- Assumes nothing.
-use mathlib.Core.Path.{◌≡◌, refl, sym, ap, ◌∙◌, subst}
+use mathlib.Core.Path.{◌≡◌, refl, sym, ◌∙◌}
 use mathlib.Core.Logic.{◌⊎◌, inl, inr, ⊎_elim}
-use mathlib.Core.Bool.{Bool, true, false, not, cond, ◌&&◌, ◌||◌}
-use mathlib.Core.List.{List, [], ◌∷◌, ◌++◌}
-use Prim.Native.Nat.{ℕ, zero, suc, ◌+◌, ◌≤◌, ◌<◌}
-use native.Mathlib.Nat.{not-suc-le-zero, eq-or-lt_of_le, le_of_suc-le-suc}
+use mathlib.Core.Bool.{Bool, true, false, ◌&&◌, ◌||◌}
+use mathlib.Core.List.{List}
+use Prim.Native.Nat.{ℕ, zero, suc, ◌≤◌, ◌<◌}
+use native.Mathlib.Nat.{not-suc-le-zero}
 use native.Mathlib.Omega.{arith}
-use lib.Dec.{eqb, ltb}
-use borrow.Author.Tests.{ltb-true, lt-ltb, eqb-true, eq-eqb}
+use lib.Dec.{ltb}
+use borrow.Author.Tests.{ltb-true, lt-ltb}
 use Rattle.paper.specs.Lists.{mem}
 use Rattle.paper.specs.Graph.{Graph, Reach, start, step, look, pass, known, hist, ValidGraph}
-use Rattle.paper.proofs.Bools.{split, by_bool, not-both, to_false, same_bool, or_cases, or_left, or_right, and_both, and_fst, and_snd, below_suc, mem_here, mem_cons, mem_single, mem_append}
+use Rattle.paper.proofs.Bools.{by_bool, or_cases, or_left, or_right, and_both, and_fst, and_snd, below_suc}
 
 -- a mark after a look at m
 pub look_at : (g : Graph) (m : ℕ) (w : ℕ → Bool) (j : ℕ) → look g m w j ≡ (w j || (w m && mem j (g.deps m)))

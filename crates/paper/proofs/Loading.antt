@@ -1,16 +1,14 @@
 -- Loading: what the columns say of their graph, and what each condition gives.
 -- Assumes nothing.
-use mathlib.Core.Path.{◌≡◌, refl, sym, ap, ap₂, ◌∙◌, subst}
-use mathlib.Core.Bool.{Bool, true, false, not, cond, ◌&&◌, ◌||◌}
-use mathlib.Core.List.{List, [], ◌∷◌, ◌++◌, map}
-use Prim.Native.Nat.{ℕ, zero, suc, ◌+◌, ◌*◌, ◌/◌, ◌≤◌, ◌<◌}
-use native.Mathlib.Omega.{arith}
+use mathlib.Core.Path.{◌≡◌, refl, sym, ap, ap₂, ◌∙◌}
+use mathlib.Core.Bool.{Bool, true, false, not, ◌&&◌, ◌||◌}
+use Prim.Native.Nat.{ℕ, zero, suc, ◌/◌, ◌≤◌, ◌<◌}
 use lib.Dec.{eqb, ltb, leb}
-use lib.ListN.{length, get_or, take, drop}
+use lib.ListN.{length, get_or, take}
 use lib.Seq.{take-add}
 use borrow.Author.Tests.{eqb-true, ltb-true, leb-true}
-use Rattle.paper.specs.Lists.{mem, tally, some_below, all_below, all_in, sum_below, every, names, same_list, hash_at, hashes_of}
-use Rattle.paper.specs.Graph.{Graph, wanted, heads}
+use Rattle.paper.specs.Lists.{mem, tally, some_below, all_below, all_in, sum_below, names, same_list, hash_at, hashes_of}
+use Rattle.paper.specs.Graph.{wanted, heads}
 use Rattle.paper.specs.Loading.{Columns, listed_changes, deps_before, deps_of_columns, column_graph, same_hashes, lengths_equal, actors_below, ops_right, deps_few, values_enough, deps_below, max_ops_rise, sequences_run, hashes_distinct, heads_stated, agree}
 use Rattle.paper.proofs.Bools.{mem_nil, mem_append, some_ext, and_fst, and_snd, of_all, of_all_in, is_not, to_false, some_of, not-both}
 use Rattle.paper.proofs.Scans.{all_ext}

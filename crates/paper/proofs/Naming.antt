@@ -1,8 +1,8 @@
 -- Lists of hashes: which hashes they name, and tests of every one of them, by places and by nodes.
 -- Assumes nothing.
-use mathlib.Core.Path.{◌≡◌, refl, sym, ap, ap₂, ◌∙◌, subst}
+use mathlib.Core.Path.{◌≡◌, refl, sym, ap, ◌∙◌}
 use mathlib.Core.Logic.{⊎_elim}
-use mathlib.Core.Bool.{Bool, true, false, not, cond, ◌&&◌, ◌||◌}
+use mathlib.Core.Bool.{Bool, true, false, not, ◌&&◌, ◌||◌}
 use mathlib.Core.List.{List, [], ◌∷◌, ◌++◌, map}
 use Prim.Native.Nat.{ℕ, zero, suc, ◌+◌, ◌/◌, ◌≤◌, ◌<◌}
 use native.Mathlib.Nat.{eq-or-lt_of_le}
@@ -12,7 +12,7 @@ use Rattle.paper.specs.Lists.{pick, some_below, all_below, every, same_list, nam
 use Rattle.paper.specs.Graph.{Graph, wanted, head_nodes, heads}
 use Rattle.paper.proofs.Bools.{by_bool, not-both, same_bool, or_cases, or_left, or_right, and_both, and_fst, and_snd, not_is, is_not, of_some, some_of, of_all, all_of}
 use Rattle.paper.proofs.Ascending.{ascending_names}
-use Rattle.paper.proofs.Hashes.{same_refl, same→eq, eq→same, every_of, of_every}
+use Rattle.paper.proofs.Hashes.{same_refl, same→eq, every_of, of_every}
 
 -- ---- the hashes of a list of bytes
 

@@ -1,7 +1,7 @@
 -- The ready order: every ready one is listed exactly once and no other, and what it depends on is known or listed earlier.
 -- Assumes nothing.
 use mathlib.Core.Path.{◌≡◌, refl, sym, ap, ◌∙◌, subst}
-use mathlib.Core.Logic.{◌⊎◌, inl, inr, ⊎_elim, ◌↔◌}
+use mathlib.Core.Logic.{⊎_elim, ◌↔◌}
 use mathlib.Core.Bool.{Bool, true, false, not, cond, ◌&&◌, ◌||◌}
 use mathlib.Core.List.{List, [], ◌∷◌, ◌++◌}
 use Prim.Native.Nat.{ℕ, zero, suc, ◌+◌, ◌-◌, ◌≤◌, ◌<◌}
@@ -9,11 +9,11 @@ use native.Mathlib.Numerals.{add-one}
 use native.Mathlib.Omega.{arith}
 use lib.Dec.{eqb, ltb}
 use lib.ListN.{length, take, drop, get_or, length-append, length-take, get_or-append}
-use lib.Seq.{take-append-le, take-add, take_all, take-length, get_or-append-add, get_or-take}
+use lib.Seq.{take-append-le, take-add, take-length, get_or-append-add, get_or-take}
 use borrow.Author.Tests.{ltb-true, ltb-false, lt-ltb, le-ltb}
-use Rattle.paper.specs.Lists.{same_list, mem, names, pick, tally, count, every}
-use Rattle.paper.specs.Queue.{Waiting, Queue, Distinct, Ready, ready, among, met, first, freed, order_from, order, rest}
-use Rattle.paper.proofs.Bools.{by_bool, to_false, not-both, same_bool, or_cases, or_left, or_right, and_both, and_fst, and_snd, mem_get_d, mem_place, pick_mem, tally_ext}
+use Rattle.paper.specs.Lists.{same_list, mem, names, tally, count}
+use Rattle.paper.specs.Queue.{Queue, Distinct, Ready, ready, among, met, first, freed, order_from, order, rest}
+use Rattle.paper.proofs.Bools.{by_bool, to_false, not-both, or_cases, or_left, or_right, and_both, and_fst, mem_get_d, mem_place, pick_mem, tally_ext}
 use Rattle.paper.proofs.Count.{tally_most, tally_split, count-append, count-true, count_pick, tally_one, mem_count, parts, count_two}
 use Rattle.paper.proofs.Bools.{below_or_not}
 use Rattle.paper.proofs.Hashes.{same→eq, eq→same, every_of, of_every}

@@ -1,13 +1,11 @@
 -- Actors renumbered by a function that keeps them apart: histories stay, and each clock entry goes with its actor.
 -- Assumes nothing.
-use mathlib.Core.Path.{◌≡◌, refl, sym, ap, ap₂, ◌∙◌, subst}
-use mathlib.Core.Bool.{Bool, true, false}
-use mathlib.Core.List.{List, [], ◌∷◌}
-use Prim.Native.Nat.{ℕ, zero, suc, ◌+◌, ◌≤◌, ◌<◌}
+use mathlib.Core.Path.{◌≡◌, sym, ap, ap₂, ◌∙◌}
+use mathlib.Core.List.{List}
+use Prim.Native.Nat.{ℕ, suc, ◌<◌}
 use native.Mathlib.Omega.{arith}
 use lib.Dec.{eqb}
 use borrow.Author.Tests.{eqb-true, eq-eqb}
-use Rattle.paper.specs.Lists.{mem, tally}
 use Rattle.paper.specs.Graph.{Graph, hist, clock, ValidGraph}
 use Rattle.paper.specs.ProofWords.{Relabels}
 use Rattle.paper.proofs.Bools.{same_bool, tally_ext}

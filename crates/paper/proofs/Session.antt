@@ -1,13 +1,13 @@
 -- The session read in pieces: however the bytes are cut, the joined answers are those of the session.
 -- Assumes nothing.
 use mathlib.Core.Path.{◌≡◌, refl, sym, ap, ◌∙◌}
-use Prim.Native.Nat.{ℕ, zero, suc, ◌+◌, ◌<◌, ◌≤◌}
+use Prim.Native.Nat.{ℕ, suc, ◌<◌, ◌≤◌}
 use native.Mathlib.Omega.{arith}
 use mathlib.Core.List.{List, [], ◌∷◌, ◌++◌, append_assoc, append-nil}
-use mathlib.Core.Bool.{Bool, true, false, cond, ◌&&◌, not}
+use mathlib.Core.Bool.{Bool, true, false, cond}
 use lib.ListN.{length, length-append}
 use lib.Dec.{eqb, leb}
-use borrow.Author.Tests.{eq-eqb, ne_eqb, le-leb, lt-leb, leb-true, leb-false, eqb-true}
+use borrow.Author.Tests.{lt-leb, leb-true, leb-false}
 use Rattle.paper.specs.Text.{grow, parted, flat}
 use Rattle.paper.specs.Session.{Phase, first, second, asking, ended, bad_line, short_line, long_line, line_step, ending, answers, session}
 use Rattle.paper.specs.Pieces.{Reader, feed_byte, reader_after, said_to, finished, fresh, said_to_all}
@@ -115,7 +115,7 @@ module _ (p : Phase) (n : ℕ) (kept : List ℕ) (f : without 10 kept ≡ true) 
   lines_lf : eqb b 10 ≡ true
       → answers p n (parted 10 (kept ++ (b ∷ bs))) ≡ (line_step p n kept).said ++ answers (line_step p n kept).phase (suc n) (parted 10 bs)
   unfolding answers ahead parted
-  lines_lf e = let q = some_parts 10 bs in rw (parted_ahead 10 kept (b ∷ bs) f, e, append-nil kept, q.are)
+  lines_lf e = let q = some_parts 10 bs in rw (parted_ahead 10 kept (b ∷ bs) f, e, q.are) (rw (append-nil kept))
 
   lines_long : eqb b 10 ≡ false → 2400 ≤ length kept → answers p n (parted 10 (kept ++ (b ∷ bs))) ≡ (long_line p n).said
   unfolding ahead parted grow

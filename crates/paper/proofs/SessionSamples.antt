@@ -1,7 +1,7 @@
 -- The sessions of the list, computed: each answers what stands beside it.
 -- Assumes nothing.
 use mathlib.Core.Path.{◌≡◌, refl}
-use mathlib.Core.List.{List, map}
+use mathlib.Core.List.{map}
 use Rattle.paper.specs.Bytes.{bytes}
 use Rattle.paper.specs.Lists.{mem, pick, tally, some_below, first_from, first_below, sum_below, each_below, same_list, less_list, enter, ascending, hash_at, hashes_from, hashes_of}
 use Rattle.paper.specs.Graph.{look, pass, known, hist, top, clock_of, clock, above, missing, wanted, head_nodes, heads, node, nodes, is_in_range, owns, owner}

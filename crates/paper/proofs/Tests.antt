@@ -1,16 +1,15 @@
 -- Valid and chained as tests.
 -- Assumes nothing.
-use mathlib.Core.Path.{◌≡◌, refl, sym, ap, ◌∙◌, subst}
-use mathlib.Core.Logic.{◌⊎◌, inl, inr, ⊎_elim, ◌↔◌}
-use mathlib.Core.Bool.{Bool, true, false, ◌&&◌, ◌||◌}
-use mathlib.Core.List.{List, [], ◌∷◌}
-use Prim.Native.Nat.{ℕ, zero, suc, ◌+◌, ◌-◌, ◌≤◌, ◌<◌}
+use mathlib.Core.Path.{◌≡◌, sym, ap, ◌∙◌}
+use mathlib.Core.Logic.{⊎_elim, ◌↔◌}
+use mathlib.Core.Bool.{Bool, true, ◌&&◌, ◌||◌}
+use Prim.Native.Nat.{ℕ, suc}
 use native.Mathlib.Omega.{arith}
 use lib.Dec.{eqb, ltb, leb}
 use borrow.Author.Tests.{ltb-true, lt-ltb, leb-true, leb-false, eqb-true, eq-eqb}
 use Rattle.paper.specs.Lists.{mem, tally, some_below, all_in}
-use Rattle.paper.specs.Graph.{Graph, clock, ValidGraph, valid_test, Precedes, ChainedOld, chained_old_test, Chained, chained_test}
-use Rattle.paper.proofs.Bools.{by_bool, not-both, or_cases, or_left, or_right, and_both, and_fst, and_snd, of_all, all_of, of_all_in, all_in_of, some_of, of_some}
+use Rattle.paper.specs.Graph.{Graph, clock, ValidGraph, valid_test, ChainedOld, chained_old_test, Chained, chained_test}
+use Rattle.paper.proofs.Bools.{by_bool, or_cases, or_left, or_right, and_both, and_fst, and_snd, of_all, all_of, of_all_in, all_in_of, some_of, of_some}
 use Rattle.paper.proofs.Chain.{same_node, preceding, chained_clock, clock_chained}
 
 pub valid_iff : (g : Graph) → (valid_test g ≡ true) ↔ ValidGraph g

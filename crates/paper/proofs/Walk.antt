@@ -1,17 +1,17 @@
 -- The laws of a walk that takes the highest marked node, with its own clock or by its dependencies, until none is left.
 -- At each step the larger of what it has and `front`, what is still to come, is the clock that it started for.
 -- Assumes nothing.
-use mathlib.Core.Path.{◌≡◌, refl, sym, ap, ◌∙◌, subst}
-use mathlib.Core.Logic.{◌⊎◌, inl, inr, ⊎_elim}
-use mathlib.Core.Bool.{Bool, true, false, cond, ◌&&◌, ◌||◌}
-use mathlib.Core.List.{List, [], ◌∷◌, ◌++◌}
-use Prim.Native.Nat.{ℕ, zero, suc, ◌+◌, ◌≤◌, ◌<◌, max}
+use mathlib.Core.Path.{◌≡◌, refl, sym, ap, ◌∙◌}
+use mathlib.Core.Logic.{⊎_elim}
+use mathlib.Core.Bool.{Bool, true, false, ◌||◌}
+use mathlib.Core.List.{List, [], ◌∷◌}
+use Prim.Native.Nat.{ℕ, zero, suc, ◌≤◌, ◌<◌, max}
 use native.Mathlib.Nat.{not-suc-le-zero}
 use native.Mathlib.Omega.{arith}
-use lib.Dec.{eqb, ltb}
+use lib.Dec.{ltb}
 use borrow.Author.Tests.{ltb-true, ltb-false}
 use Rattle.paper.specs.Lists.{mem}
-use Rattle.paper.specs.Graph.{Graph, own, hist, clock_of, clock, Covers, ValidGraph}
+use Rattle.paper.specs.Graph.{Graph, own, hist, clock, Covers, ValidGraph}
 use Rattle.paper.specs.ProofWords.{front}
 use Rattle.paper.proofs.Bools.{by_bool, not-both, or_cases, or_left, or_right, below_suc, mem_here, mem_nil, mem_single}
 use Rattle.paper.proofs.History.{hist_least, hist_start, hist_closed, hist_known}

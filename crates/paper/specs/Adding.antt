@@ -1,6 +1,6 @@
 -- Adding a change: the graph with its room, the judgement by cases in the paper's order, and the graph afterwards.
 -- Assumes nothing.
-use Rattle.std.specs.Prelude.{Bool, true, false, not, cond, ◌||◌, List, [], ◌∷◌, ℕ, suc, ◌+◌, ◌%◌, eqb, ltb, leb, length}
+use Rattle.std.specs.Prelude.{Bool, not, cond, ◌||◌, List, [], ◌∷◌, ℕ, suc, ◌+◌, ◌%◌, eqb, ltb, leb, length}
 use Rattle.paper.specs.Lists.{tally, sum_below, hashes_of}
 use Rattle.paper.specs.Numbers.{Outcome, number, done, malformed, already_known, unknown_dependency, no_actor, wrong_sequence, wrong_ops, many_dependencies, no_node_room, no_edge_room}
 use Rattle.paper.specs.Graph.{Graph, node, nodes}

@@ -1,6 +1,6 @@
 -- Which clocks are cached: the caching rule, over the set of nodes whose clocks are cached already.
 -- Assumes nothing.
-use Rattle.std.specs.Prelude.{Bool, true, false, cond, ◌||◌, List, [], ◌∷◌, ℕ, zero, suc, ◌%◌, eqb, leb}
+use Rattle.std.specs.Prelude.{Bool, cond, ◌||◌, List, [], ◌∷◌, ℕ, zero, suc, ◌%◌, eqb, leb}
 use Rattle.paper.specs.Lists.{pick}
 use Rattle.paper.specs.Graph.{Graph, look}
 

@@ -1,6 +1,6 @@
 -- Loading decoded columns: what they list, the conditions under which they agree, what loading comes to, and the changes to be added.
 -- Assumes nothing.
-use Rattle.std.specs.Prelude.{Bool, true, false, not, cond, ◌&&◌, ◌||◌, List, [], ◌∷◌, ◌++◌, ℕ, suc, ◌+◌, ◌/◌, ◌%◌, eqb, ltb, leb, length, get_or, take, drop}
+use Rattle.std.specs.Prelude.{Bool, not, cond, ◌&&◌, ◌||◌, List, [], ◌∷◌, ◌++◌, ℕ, suc, ◌/◌, ◌%◌, eqb, ltb, leb, length, get_or, take, drop}
 use Rattle.paper.specs.Lists.{tally, some_below, all_below, all_in, sum_below, each_below, every, same_list, names, hash_at, hashes_of}
 use Rattle.paper.specs.Numbers.{Outcome, done, malformed, no_node_room, no_edge_room, no_actor_room, columns_disagree}
 use Rattle.paper.specs.Graph.{Graph, heads}

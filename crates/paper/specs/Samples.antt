@@ -1,12 +1,12 @@
 -- Samples P1 to P12 of the paper: one list of questions with their answers, over the definitions.
 -- Assumes nothing.
-use Rattle.std.specs.Prelude.{Bool, true, false, cond, List, [], ◌∷◌, ◌++◌, map, ℕ, zero, suc, ◌+◌, ◌*◌, ltb, replicate}
-use Rattle.paper.specs.Lists.{each_below, hashes_of, hash_at}
+use Rattle.std.specs.Prelude.{Bool, false, cond, List, [], ◌∷◌, map, ℕ, ◌*◌, ltb, replicate}
+use Rattle.paper.specs.Lists.{each_below, hash_at}
 use Rattle.paper.specs.Numbers.{number, no_owner}
 use Rattle.paper.specs.Graph.{Graph, node, nodes, hist, clock, op_clock, missing, owner, heads, chained_old_test}
 use Rattle.paper.specs.Adding.{Hub, Change, Verdict, plain, unknown, outcome, judged, added}
 use Rattle.paper.specs.Session.{bench}
-use Rattle.paper.specs.Queue.{Waiting, Queue, of_list, order}
+use Rattle.paper.specs.Queue.{Waiting, of_list, order}
 
 -- ---- questions and answers
 
