@@ -1,6 +1,6 @@
 -- Actors: opening an empty graph for a number of them, one more at a place, one less. The answers, and the tables afterwards.
 -- Assumes nothing.
-use Rattle.std.specs.Prelude.{Bool, cond, ◌&&◌, List, [], ◌∷◌, ℕ, zero, suc, ◌+◌, ◌*◌, ◌-◌, eqb, ltb, leb, get_or, set}
+use Rattle.std.specs.Prelude.{cond, ◌&&◌, List, [], ◌∷◌, ℕ, zero, suc, ◌+◌, ◌*◌, ◌-◌, eqb, ltb, leb, get_or, set}
 use Rattle.paper.specs.Numbers.{Outcome, number, done, no_actor, actor_has_changes, no_actor_room}
 use Rattle.clock.specs.Clock.{raised}
 use Rattle.tables.specs.Tables.{Tables, changes, actors, actor_room, actor_at}

@@ -1,16 +1,16 @@
 -- Whatever opening, putting in or taking away answers, valid tables are valid afterwards, and a refusal leaves them as they were.
 -- Assumes nothing.
-use Rattle.std.specs.Prelude.{◌≡◌, refl, Bool, true, false, cond, ◌&&◌, List, [], ◌∷◌, ℕ, ◌+◌, ◌≤◌, ◌<◌, eqb, ltb, leb}
-use Rattle.std.proofs.Common.{sym, ap, subst, ◌∙◌, arith, leb-true, leb-false, ltb-true, ltb-false, eqb-true}
+use Rattle.std.specs.Prelude.{◌≡◌, refl, ℕ, ◌≤◌, eqb, ltb, leb}
+use Rattle.std.proofs.Common.{sym, subst, arith, leb-true, leb-false, ltb-true, ltb-false, eqb-true}
 use Rattle.std.proofs.lemmas.Bool.{eqb-false}
 use Rattle.paper.proofs.Bools.{by_bool}
 use Rattle.tables.specs.Tables.{Tables, changes, edges, actors, actor_room}
-use Rattle.tables.specs.Valid.{Lengths, HashesDistinct, Numbers, Laid, Running, Heads, Rows, Valid, count_of}
+use Rattle.tables.specs.Valid.{Lengths, HashesDistinct, Numbers, Running, Heads, Rows, Valid, count_of}
 use Rattle.tables.specs.Valid.Laid.{none}
 use Rattle.actors.specs.declared.ActorAnswer.{ActorAnswer}
 use Rattle.actors.specs.declared.ActorAnswer.TheVariants.{Done, NoActor, HasChanges, NoRoom}
-use Rattle.actors.specs.Actors.{actor_number, opening, inserting, removing, actor_inserted, actor_removed, opened, if_actors_done}
-use Rattle.actors.specs.ActorLaws.{opening_done, opening_refused, inserting_done, inserting_high, inserting_full, removing_none, removing_used, removing_done}
+use Rattle.actors.specs.Actors.{actor_number, inserting, removing, actor_inserted, actor_removed, opened, if_actors_done}
+use Rattle.actors.specs.ActorLaws.{inserting_done, inserting_high, inserting_full, removing_none, removing_used, removing_done}
 use Rattle.actors.specs.Renamed.{inserted_valid, removed_valid}
 
 -- a refusal leaves the tables as they were

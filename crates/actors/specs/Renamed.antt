@@ -1,15 +1,15 @@
 -- Tables whose actors are renumbered: the graph is the old one with other numbers, every clock goes with its actor, and valid tables stay valid.
 -- Assumes nothing.
-use Rattle.std.specs.Prelude.{◌≡◌, refl, ◌⊎◌, Bool, true, false, List, [], ◌∷◌, eqb, ltb, leb, length, get_or, set}
+use Rattle.std.specs.Prelude.{◌≡◌, refl, Bool, List, [], ◌∷◌, eqb, ltb, length, get_or}
 use Rattle.std.proofs.Math.Path.{sym, ap, subst, fun_ext}
-use Rattle.std.proofs.Common.{ap₂, ◌∙◌, length-set, get_or-set_same, get_or-set_other, ltb-true, ltb-false, lt-ltb, le-ltb, le-leb, leb-true, leb-false, eq-eqb, ne_eqb, eqb-true}
+use Rattle.std.proofs.Common.{◌∙◌, length-set, get_or-set_same, get_or-set_other, ltb-true, ltb-false, lt-ltb, le-ltb, le-leb, eq-eqb, eqb-true}
 use Rattle.std.proofs.Math.Logic.{inl, inr, ⊎_elim}
 use Rattle.std.proofs.Math.Bool.{cond}
-use Prim.Native.Nat.{ℕ, zero, suc, ◌+◌, ◌*◌, ◌-◌, ◌/◌, ◌≤◌, ◌<◌}
+use Prim.Native.Nat.{ℕ, suc, ◌+◌, ◌*◌, ◌-◌, ◌/◌, ◌≤◌, ◌<◌}
 use native.Mathlib.Omega.{arith}
 use Rattle.std.proofs.lemmas.Bool.{lt-leb, eqb-false}
-use Rattle.paper.specs.Lists.{mem, tally, some_below}
-use Rattle.paper.specs.Graph.{Graph, clock, wanted, ValidGraph}
+use Rattle.paper.specs.Lists.{mem, some_below}
+use Rattle.paper.specs.Graph.{clock, wanted}
 use Rattle.paper.specs.ProofWords.{Relabels}
 use Rattle.paper.proofs.Bools.{by_bool, below_or_not, tally_up, some_ext}
 use Rattle.paper.proofs.Clock.{clock_least}
@@ -17,12 +17,11 @@ use Rattle.paper.proofs.History.{hist_known}
 use Rattle.paper.proofs.Relabel.{valid_relabel, clock_relabel, clock_relabel_new}
 use Rattle.clock.specs.Clock.{raised}
 use Rattle.clock.specs.Places.{raised_low, raised_high}
-use Rattle.tables.specs.Tables.{Tables, changes, edges, actors, change_room_of, actor_room, width_of, actor_at, head_at, entry_at, along, graph}
-use Rattle.tables.specs.Valid.{Lengths, Counts, HashesDistinct, NumbersAt, Numbers, Laid, Running, Heads, Rows, Sound, Valid, count_of}
+use Rattle.tables.specs.Tables.{Tables, changes, edges, actors, change_room_of, actor_room, width_of, actor_at, entry_at, along, graph}
+use Rattle.tables.specs.Valid.{Lengths, HashesDistinct, Numbers, Laid, Running, Heads, Rows, Valid, count_of}
 use Rattle.tables.specs.LaidLaws.{laid_same}
 use Rattle.tables.specs.DepsLaws.{valid_graph}
-use Rattle.actors.specs.declared.ActorAnswer.TheVariants.{Done}
-use Rattle.actors.specs.Actors.{lower, widen, narrow, renumbered, row_at, rows_by, renamed, actor_inserted, actor_removed, inserting, removing}
+use Rattle.actors.specs.Actors.{lower, widen, narrow, row_at, renamed, actor_inserted, actor_removed}
 use Rattle.actors.specs.ActorLaws.{renumbered_long, renumbered_other, renumbered_actor, rows_long, rows_in, Rooms, rooms}
 
 -- ---- a renumbering f, with what s makes of a clock, for a actors afterwards

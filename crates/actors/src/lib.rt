@@ -1,4 +1,6 @@
 // Actors of a graph: opening an empty graph for a number of them, putting one in at a place, taking one away.
+#![tactic(auto)]
+
 ghost use Rattle.std.specs.Prelude.{◌≡◌, ℕ, ◌+◌, ◌*◌, ◌≤◌, ◌<◌, length};
 ghost use Rattle.clock.specs.Clock.{raised};
 ghost use Rattle.tables.specs.Tables.{tables, actor_at};
@@ -6,7 +8,7 @@ ghost use Rattle.tables.specs.Valid.{Lengths, Valid};
 ghost use Rattle.actors.specs.Actors.{actor_number, opening, inserting, removing, lower, widen, narrow, renumbered, row_filled, row_at, rows_by, actor_inserted, actor_removed, opened, if_actors_done};
 
 // What opening, putting in or taking away comes to.
-#[derive(Drop)]
+#[derive(Clone, Copy)]
 pub enum ActorAnswer {
     Done,
     NoActor,

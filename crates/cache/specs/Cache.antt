@@ -1,6 +1,6 @@
 -- The cached clocks: what caching a node, and throwing the cached clocks away, make of the clock table.
 -- Assumes nothing.
-use Rattle.std.specs.Prelude.{◌≡◌, ◌↔◌, Bool, true, cond, ◌&&◌, ◌||◌, List, [], ◌∷◌, ◌++◌, ℕ, zero, suc, ◌+◌, ◌*◌, ◌/◌, ◌%◌, ◌≤◌, ◌<◌, max, eqb, ltb, length, get_or, drop, replicate}
+use Rattle.std.specs.Prelude.{◌≡◌, ◌↔◌, Bool, true, cond, ◌&&◌, ◌||◌, List, [], ◌∷◌, ◌++◌, ℕ, suc, ◌+◌, ◌*◌, ◌/◌, ◌%◌, ◌≤◌, ◌<◌, max, eqb, ltb, length, get_or, drop, replicate}
 use Rattle.paper.specs.Lists.{pick, each_below}
 use Rattle.paper.specs.Graph.{clock}
 use Rattle.paper.specs.ProofWords.{front}

@@ -1,25 +1,24 @@
 -- The steps of caching a node.
 -- Assumes nothing.
-use Rattle.std.specs.Prelude.{◌≡◌, refl, ◌⊎◌, Bool, true, false, cond, ◌||◌, eqb, ltb, set, drop, replicate}
+use Rattle.std.specs.Prelude.{◌≡◌, refl, Bool, true, false, cond, ◌||◌, eqb, ltb, set}
 use Rattle.std.proofs.Math.Path.{sym, ap}
-use Rattle.std.proofs.Common.{◌∙◌, subst, inl, inr, ⊎_elim, add-one, get_or-set_same, ext_get_or}
-use mathlib.Core.List.{List, [], ◌∷◌, ◌++◌}
-use Prim.Native.Nat.{ℕ, zero, suc, ◌+◌, ◌-◌, ◌*◌, ◌≤◌, ◌<◌, max}
+use Rattle.std.proofs.Common.{◌∙◌, ⊎_elim, add-one, get_or-set_same, ext_get_or}
+use mathlib.Core.List.{List, [], ◌∷◌}
+use Prim.Native.Nat.{ℕ, suc, ◌+◌, ◌-◌, ◌*◌, ◌≤◌, ◌<◌, max}
 use native.Mathlib.Omega.{arith}
 use Rattle.std.proofs.Math.ListN.{length, get_or, length-set}
 use Rattle.std.proofs.Math.Seq.{get_or-set_other, get_or-drop, paste}
 use Rattle.std.proofs.lemmas.List.Edits.{drop-paste}
-use borrow.Author.Tests.{eqb-true, eqb-false, eq-eqb, ne_eqb, ltb-true, ltb-false, lt-ltb, le-ltb}
+use borrow.Author.Tests.{eqb-true, eqb-false, eq-eqb, ne_eqb, ltb-false}
 use Rattle.list_laws.specs.Paste.{paste_long, paste_low, paste_in}
 use Rattle.paper.specs.Lists.{mem, pick}
-use Rattle.paper.specs.Graph.{Graph, clock, ValidGraph as ValidGraph}
+use Rattle.paper.specs.Graph.{clock, ValidGraph as ValidGraph}
 use Rattle.paper.specs.ProofWords.{front}
 use Rattle.paper.specs.Caching.{left_over, in_turn, cached_to, cached_after}
-use Rattle.paper.proofs.Bools.{by_bool, not-both, to_false, below_or_not, mem_nil, mem_single, mem_here, mem_pick, pick_mem}
-use Rattle.paper.proofs.Walk.{front_ext, front_skip, front_cached, front_mark, clock_nil}
-use Rattle.paper.proofs.Cached.{left_ext, left_lower, in_turn_snoc, turn_ext, cached_above, cached_again, cached_by, after_here, after_above, after_to}
-use Rattle.tables.specs.Tables.{Tables, changes, actor_room, actor_at, entry_at, graph}
-use Rattle.tables.specs.Valid.{Sound}
+use Rattle.paper.proofs.Bools.{by_bool, to_false, below_or_not, mem_pick, pick_mem}
+use Rattle.paper.proofs.Walk.{front_skip, front_cached}
+use Rattle.paper.proofs.Cached.{left_ext, left_lower, turn_ext, cached_again, cached_by}
+use Rattle.tables.specs.Tables.{Tables, actor_room, actor_at, graph}
 use Rattle.tables.specs.DepsLaws.{valid_graph}
 use Rattle.walk.specs.Marks.{marked}
 use Rattle.walk.specs.Rows.{cached, RowsRight, Walkable}

@@ -1,28 +1,27 @@
 -- The check of the cached rows, in node order: each row by a walk that uses the rows below.
 -- Assumes nothing.
-use Rattle.std.specs.Prelude.{◌≡◌, refl, ◌↔◌, Bool, ◌||◌, ℕ, zero, suc, ◌+◌, ◌*◌, ◌≤◌, ◌<◌, max, eqb, set, drop, take, replicate}
+use Rattle.std.specs.Prelude.{◌≡◌, refl, ◌↔◌, Bool, ◌||◌, ℕ, ◌+◌, ◌*◌, ◌≤◌, ◌<◌, set, drop, take, replicate}
 use Rattle.std.proofs.Math.Path.{sym, ap}
-use Rattle.std.proofs.Common.{◌∙◌, subst, ⊎_elim, mul-le-mul_right, length-set, ext_get_or, length-take-le, lt-ltb, le-ltb, ltb-false}
-use Rattle.std.proofs.Math.Bool.{true, false, cond, or-false}
+use Rattle.std.proofs.Common.{◌∙◌, subst, ⊎_elim, mul-le-mul_right, length-set, ext_get_or, length-take-le}
+use Rattle.std.proofs.Math.Bool.{true, false, cond}
 use mathlib.Core.List.{List, [], ◌∷◌, ◌++◌}
 use native.Mathlib.Omega.{arith}
 use Rattle.std.proofs.Math.Dec.{ltb}
 use Rattle.std.proofs.Math.ListN.{length, get_or, length-append, length-drop, length-replicate, get_or-append}
 use Rattle.list_laws.specs.Iff.{same_answer, Below}
 use Rattle.paper.specs.Lists.{mem, each_below}
-use Rattle.paper.specs.Graph.{Graph, own, clock, ValidGraph as ValidGraph}
-use Rattle.paper.specs.ProofWords.{front}
-use Rattle.paper.proofs.Bools.{by_bool, to_false, below_or_not}
+use Rattle.paper.specs.Graph.{clock, ValidGraph as ValidGraph}
+use Rattle.paper.proofs.Bools.{to_false, below_or_not}
 use Rattle.paper.proofs.Clock.{clock_node}
 use Rattle.paper.proofs.Walk.{front_ext, front_mark}
 use Rattle.paper.proofs.Each.{to_each, length_each, get_d_each}
-use Rattle.tables.specs.Tables.{Tables, changes, actors, actor_room, actor_at, seq_at, first_at, along, entry_at, graph}
-use Rattle.tables.specs.Valid.{Sound, Rows, Valid}
+use Rattle.tables.specs.Tables.{Tables, changes, actor_room, actor_at, seq_at, first_at, along, graph}
+use Rattle.tables.specs.Valid.{Sound, Valid}
 use Rattle.tables.specs.DepsLaws.{valid_graph}
 use Rattle.walk.specs.Marks.{marked, MarkedBy}
 use Rattle.walk.specs.MarkLaws.{marked_by}
 use Rattle.walk.specs.Rows.{cached, RowsRight, Walkable}
-use Rattle.walk.specs.RowLaws.{row_fits, node_fits, actor_low, rows_right, right_rows, changes_few}
+use Rattle.walk.specs.RowLaws.{row_fits, node_fits, actor_low, rows_right, right_rows}
 use Rattle.walk.specs.Walk.{WalkDone}
 use Rattle.walk.specs.WalkLaws.{front_none, included, all_clean, all_walked}
 use Rattle.walk.specs.Whole.{cleared}

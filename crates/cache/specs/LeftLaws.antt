@@ -1,21 +1,20 @@
 -- The loop of `cache_left_over`: the marked nodes below i are cached in turn, and what they bring is in row k.
 -- Assumes nothing.
-use Rattle.std.specs.Prelude.{◌≡◌, refl, ◌⊎◌, Bool, ◌||◌, ℕ, zero, suc, ◌+◌, ◌-◌, ◌*◌, ◌≤◌, ◌<◌, max, eqb, ltb, length, set}
-use Rattle.std.proofs.Common.{sym, ◌∙◌, subst, inl, inr, ⊎_elim, add-one, arith, length-set, get_or-set_same, get_or-set_other}
+use Rattle.std.specs.Prelude.{◌≡◌, refl, Bool, ◌||◌, ℕ, suc, ◌+◌, ◌*◌, ◌≤◌, ◌<◌, max, eqb, ltb, length, set}
+use Rattle.std.proofs.Common.{sym, ◌∙◌, subst, ⊎_elim, add-one, arith, length-set, get_or-set_same, get_or-set_other}
 use Rattle.std.proofs.Math.Path.{ap}
 use Rattle.std.proofs.Math.Bool.{true, false, cond, or-false}
 use mathlib.Core.List.{List, [], ◌∷◌, ◌++◌}
 use Rattle.std.proofs.Math.ListN.{get_or}
-use borrow.Author.Tests.{eqb-true, eqb-false, eq-eqb, ne_eqb, ltb-true, ltb-false, lt-ltb, le-ltb}
+use borrow.Author.Tests.{eqb-true, eqb-false, lt-ltb}
 use Rattle.paper.specs.Lists.{mem, pick}
-use Rattle.paper.specs.Graph.{Graph, clock, ValidGraph as ValidGraph}
+use Rattle.paper.specs.Graph.{clock, ValidGraph as ValidGraph}
 use Rattle.paper.specs.ProofWords.{front}
 use Rattle.paper.specs.Caching.{in_turn, cached_to, cached_after}
 use Rattle.paper.proofs.Bools.{by_bool, to_false, below_or_not, mem_single, mem_here}
 use Rattle.paper.proofs.Walk.{front_ext, front_mark}
 use Rattle.paper.proofs.Cached.{in_turn_snoc, cached_above, after_here, after_to}
-use Rattle.tables.specs.Tables.{Tables, changes, actor_room, entry_at, graph}
-use Rattle.tables.specs.Valid.{Sound}
+use Rattle.tables.specs.Tables.{Tables, changes, actor_room, graph}
 use Rattle.tables.specs.DepsLaws.{valid_graph}
 use Rattle.walk.specs.Marks.{marked}
 use Rattle.walk.specs.Rows.{cached, RowsRight}

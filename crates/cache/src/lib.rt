@@ -1,4 +1,6 @@
 // The cached clocks: caching a node, throwing the cached clocks away, and whether what is lent is valid.
+#![tactic(auto)]
+
 ghost use Rattle.std.specs.Prelude.{◌≡◌, Bool, true, cond, ◌↔◌, ℕ, ◌+◌, ◌*◌, ◌≤◌, ◌<◌, max, length, get_or, replicate, ltb};
 ghost use Rattle.tables.specs.Tables.{tables, graph, changes, actor_room};
 ghost use Rattle.tables.specs.Valid.{Valid, Sound};

@@ -1,7 +1,7 @@
 -- A place put in and taken out: how the entries go with their actors, over a table of which the first n entries are in use (a clock, or one row of a
 -- larger table), and the steps of the two loops.
 -- Assumes nothing.
-use Rattle.std.specs.Prelude.{◌≡◌, refl, ℕ, zero, suc, ◌+◌, ◌-◌, ◌<◌, ◌≤◌, Bool, true, false, cond, length, take, set, ltb}
+use Rattle.std.specs.Prelude.{◌≡◌, refl, ℕ, zero, suc, ◌+◌, ◌-◌, ◌<◌, ◌≤◌, length, take, set}
 use Rattle.std.proofs.Math.Path.{sym, ap}
 use Rattle.std.proofs.Common.{◌∙◌, not-suc-le-zero, le_of_suc-le-suc, eq-or-lt_of_le, arith, length-append, length-take, get_or-take, get_or-drop, length-take-le, ext_get_or, lt-ltb, le-ltb}
 use Rattle.std.proofs.Math.Logic.{⊎_elim}

@@ -1,10 +1,10 @@
 -- The loops that put a place in and take one out, as records with their beginning, one step, and their end.
 -- Assumes nothing.
-use Rattle.std.specs.Prelude.{◌≡◌, refl, ℕ, suc, ◌+◌, ◌-◌, ◌<◌, ◌≤◌, List, length, get_or, set}
+use Rattle.std.specs.Prelude.{◌≡◌, refl, ℕ, suc, ◌+◌, ◌<◌, ◌≤◌, List, length, get_or, set}
 use Rattle.std.proofs.Common.{sym, ap, ◌∙◌, add-one, arith, length-set}
 use Rattle.list_laws.specs.Blend.{blend, blend_read, blend_later, blend_set, blend_head, blend_tail}
 use Rattle.clock.specs.Clock.{inserted, removed}
-use Rattle.clock.specs.Places.{length_inserted, inserted_low, inserted_here, inserted_high, inserted_head, inserted_rest, length_removed, removed_high, removed_free, removed_head, removed_rest}
+use Rattle.clock.specs.Places.{length_inserted, inserted_here, inserted_high, inserted_head, inserted_rest, length_removed, removed_high, removed_free, removed_head, removed_rest}
 
 -- ---- a new actor at p: the entries below i are those of the target, and what is carried is the target's next one
 

@@ -1,6 +1,6 @@
 -- Worked examples, computed.
 -- Assumes nothing.
-use Rattle.std.specs.Prelude.{◌≡◌, refl, List, [], ◌∷◌, ℕ}
+use Rattle.std.specs.Prelude.{◌≡◌, refl, [], ◌∷◌}
 use Rattle.clock.specs.Clock.{joined, insert_at, remove_at, inserted, removed}
 
 shorter : joined (1 ∷ 5 ∷ 2 ∷ []) (3 ∷ 4 ∷ []) ≡ 3 ∷ 5 ∷ 2 ∷ []

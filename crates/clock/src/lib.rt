@@ -1,11 +1,13 @@
 // Clocks where they lie: an entry for each actor, 0 for nothing. Sequence clocks and op clocks are the same lists.
 // The functions are named as in the Rust. They work on a slice that is the clock, and ask for a place that it has.
+#![tactic(auto)]
+
 ghost use Rattle.std.specs.Prelude.{◌≡◌, Bool, ◌+◌, ◌<◌, ◌≤◌, length, get_or, set};
 ghost use Rattle.clock.specs.Clock.{takes, included, joined, covers_all, isolated, op_covers, inserted, removed};
 ghost use Rattle.clock.specs.Range.{which_after, InAfter, InBefore, visible_after, visible_before};
 
 // A sequence to enter, or none.
-#[derive(Drop)]
+#[derive(Clone, Copy)]
 pub enum Entry {
     Sequence(u32),
     Nothing,
@@ -13,7 +15,7 @@ pub enum Entry {
 
 // The kind of a range, beside its two clocks `before` and `after`: the current state with no clock, the current state at the clock `after`, and
 // what lies between the two.
-#[derive(Drop)]
+#[derive(Clone, Copy)]
 pub enum Range {
     Current,
     CurrentAt,
@@ -21,7 +23,7 @@ pub enum Range {
 }
 
 // One of a range's two clocks, or none.
-#[derive(Drop)]
+#[derive(Clone, Copy)]
 pub enum Which {
     Before,
     After,

@@ -1,6 +1,6 @@
 -- What the checks over the columns answer, over plain lists; put together they are the paper's conditions.
 -- Assumes nothing.
-use Rattle.std.specs.Prelude.{Bool, true, false, not, cond, ◌&&◌, ◌||◌, List, ℕ, suc, ◌/◌, eqb, ltb, leb, length, get_or, take, drop}
+use Rattle.std.specs.Prelude.{Bool, not, ◌&&◌, ◌||◌, List, ℕ, suc, ◌/◌, eqb, ltb, leb, length, get_or, take, drop}
 use Rattle.paper.specs.Lists.{mem, tally, some_below, all_below, all_in, sum_below, same_list, hash_at}
 use Rattle.paper.specs.Numbers.{Outcome, number, done, malformed, no_actor_room, columns_disagree, no_node_room, no_edge_room}
 use Rattle.paper.specs.Loading.{Columns, listed_changes}

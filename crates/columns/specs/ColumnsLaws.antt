@@ -1,19 +1,19 @@
 -- Laws of the checks over the columns: the loops' invariants with their steps, and the answers put together.
 -- Assumes nothing.
-use Rattle.std.specs.Prelude.{◌≡◌, Bool, cond, ◌&&◌, ◌||◌, List, [], ◌∷◌, ℕ, zero, suc, ◌+◌, ◌-◌, ◌*◌, ◌/◌, ◌≤◌, ◌<◌, eqb, length, get_or, take, drop}
+use Rattle.std.specs.Prelude.{◌≡◌, Bool, cond, ◌&&◌, ◌||◌, List, ℕ, ◌+◌, ◌-◌, ◌/◌, ◌≤◌, ◌<◌, eqb, length, get_or, take, drop}
 use Rattle.std.proofs.Math.Path.{refl, sym, ap, ap₂}
-use Rattle.std.proofs.Common.{◌∙◌, subst, add-one, arith, eqb-true, eq-eqb, ne_eqb, le-leb, leb-true}
+use Rattle.std.proofs.Common.{◌∙◌, add-one, arith, eqb-true, eq-eqb, ne_eqb, le-leb, leb-true}
 use Rattle.std.proofs.Math.Bool.{true, false, not}
 use Rattle.std.proofs.Math.Dec.{ltb, leb}
 use Rattle.std.proofs.lemmas.Bool.{lt-leb}
-use Rattle.paper.specs.Lists.{same_list, hash_at, mem, tally, some_below, all_below, all_in, sum_below}
-use Rattle.paper.proofs.Bools.{some_ext, to_false, not-both, and_both, and_fst, and_snd, of_all}
-use Rattle.paper.proofs.Count.{tally_more, tally_most}
+use Rattle.paper.specs.Lists.{same_list, hash_at, mem, tally, some_below, all_below, all_in}
+use Rattle.paper.proofs.Bools.{some_ext, to_false, not-both, and_both, and_fst, and_snd}
+use Rattle.paper.proofs.Count.{tally_more}
 use Rattle.paper.proofs.Scans.{Passed, all_start, all_next, all_end, all_no, all_both, all_ext, both_in, sum_start, sum_next, sum_more, tally_start}
 use Rattle.paper.specs.Graph.{wanted}
-use Rattle.paper.specs.Loading.{Columns, listed_changes, deps_before, deps_of_columns, column_graph, lengths_equal, actors_below, ops_right, deps_few, values_enough, deps_below, max_ops_rise, sequences_run, hashes_distinct, heads_stated, agree, judged_load}
+use Rattle.paper.specs.Loading.{Columns, listed_changes, deps_before, deps_of_columns, column_graph, lengths_equal, actors_below, ops_right, deps_few, values_enough, deps_below, max_ops_rise, sequences_run, hashes_distinct, heads_stated, agree}
 use Rattle.paper.proofs.Loading.{wanted_values, heads_stated_is}
-use Rattle.columns.specs.Columns.{column_ops_right, few, total, deps_at, dep_right, runs_on, is_new, is_known, column_head_is, column_heads_right, actor_is_low, lengths_are, deps_test, heads_test, enough_test, checks}
+use Rattle.columns.specs.Columns.{column_ops_right, few, total, deps_at, dep_right, is_known, column_head_is, lengths_are, deps_test, heads_test, enough_test, checks}
 
 -- ---- two tests, one of which fails
 

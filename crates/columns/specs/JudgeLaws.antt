@@ -1,6 +1,6 @@
 -- What loading comes to: one law for each answer.
 -- Assumes nothing.
-use Rattle.std.specs.Prelude.{◌≡◌, Bool, true, false, ℕ, ◌%◌, ◌≤◌, ◌<◌, length}
+use Rattle.std.specs.Prelude.{◌≡◌, true, false, ℕ, ◌%◌, ◌≤◌, ◌<◌, length}
 use borrow.Author.Tests.{eq-eqb, ne_eqb, lt-ltb, le-ltb}
 use Rattle.paper.specs.Numbers.{done, malformed, no_actor_room, columns_disagree, no_node_room, no_edge_room}
 use Rattle.paper.specs.Loading.{Columns, listed_changes, deps_before, agree, judged_load}

@@ -2,13 +2,15 @@
 // columns, however long they are and whatever 64-bit numbers they hold. The columns: the changes' hashes, 32 bytes each, their actors,
 // sequences, max ops, op counts and how many dependencies each has; the values, which are the dependencies of all changes as node
 // numbers, one after the other; and the stated heads.
+#![tactic(auto)]
+
 ghost use Rattle.std.specs.Prelude.{◌≡◌, Bool, not, ◌&&◌, ◌||◌, ◌+◌, ◌*◌, ◌/◌, ◌≤◌, ◌<◌, eqb, leb, length, get_or};
 ghost use Rattle.paper.specs.Lists.{mem, tally, some_below, all_below, all_in, same_list, hash_at};
 ghost use Rattle.paper.specs.Loading.{agree, judged_load};
 ghost use Rattle.columns.specs.Columns.{columns, loading_outcome, loading_number, actor_is_low, column_ops_right, few, runs_on, total, deps_at, dep_right, is_known, is_new, column_head_is, stated_right, head_told, column_heads_right, lengths_are};
 
 // What loading comes to.
-#[derive(Drop)]
+#[derive(Clone, Copy)]
 pub enum Loading {
     Done,
     Malformed,

@@ -1,20 +1,19 @@
 -- The tables after a change is stored: what each place of them holds.
 -- Assumes nothing.
-use Rattle.std.specs.Prelude.{◌≡◌, Bool, true, false, cond, ◌||◌, List, [], ◌∷◌, ℕ, zero, suc, ◌+◌, ◌*◌, ◌-◌, ◌/◌, ◌≤◌, ◌<◌, eqb, length, get_or, set, drop, replicate}
+use Rattle.std.specs.Prelude.{◌≡◌, Bool, cond, List, ℕ, zero, suc, ◌+◌, ◌*◌, ◌-◌, ◌/◌, ◌≤◌, ◌<◌, eqb, length, get_or, set, drop, replicate}
 use Rattle.std.proofs.Math.Path.{refl, ap, ap₂}
-use Rattle.std.proofs.Common.{sym, subst, ◌∙◌, add-one, mul-le-mul_right, suc-mul, arith, length-set, get_or-set_same, get_or-set_other, eq-eqb, ne_eqb, eqb-true}
+use Rattle.std.proofs.Common.{sym, subst, ◌∙◌, add-one, mul-le-mul_right, suc-mul, arith, length-set, get_or-set_same, get_or-set_other, eqb-true}
 use Rattle.std.proofs.Math.ListN.{take}
 use Rattle.std.proofs.lemmas.List.{length-replicate, get_or-replicate}
-use Rattle.std.proofs.Math.Seq.{slice}
 use Rattle.std.proofs.lemmas.Bool.{eqb-false}
 use Rattle.paper.specs.Lists.{mem}
 use Rattle.paper.proofs.Bools.{by_bool}
 use Rattle.paper.specs.Lists.{hash_at}
-use Rattle.list_laws.specs.Paste.{paste_long, paste_low, paste_in, paste_part, part_low, part_in}
-use Rattle.tables.specs.Tables.{Tables, changes, edges, actors, change_room_of, edge_room_of, actor_room, width_of, actor_at, seq_at, max_op_at, ops_at, first_at, head_at, entry_at, along}
+use Rattle.list_laws.specs.Paste.{paste_long, paste_low, paste_in, part_low, part_in}
+use Rattle.tables.specs.Tables.{Tables, changes, edges, actors, actor_room, width_of, actor_at, seq_at, max_op_at, ops_at, first_at, head_at, entry_at, along}
 use Rattle.tables.specs.Valid.{Valid, Lengths, Run, Laid}
 use Rattle.tables.specs.Valid.Run.{last, more}
-use Rattle.tables.specs.Valid.Laid.{none, bare, some}
+use Rattle.tables.specs.Valid.Laid.{bare, some}
 use Rattle.tables.specs.LaidLaws.{NodeLaid, laid_first, laid_same}
 use Rattle.tables.specs.LaidLaws.NodeLaid.{no_list, a_list}
 use Rattle.tables.specs.DepsLaws.{node_along, along_same, next_inside}

@@ -1,29 +1,29 @@
 -- Placing an accepted change: the graph grows by that node and no more, and the tables stay valid.
 -- Assumes nothing.
 use Rattle.std.proofs.Math.Path.{◌≡◌, refl, sym, ap, subst}
-use Rattle.std.proofs.Common.{ap₂, ◌∙◌, arith}
-use Rattle.std.specs.Prelude.{◌⊎◌, Bool, ◌||◌, ℕ, zero, suc, ◌+◌, ◌*◌, ◌-◌, ◌/◌, ◌≤◌, ◌<◌, eqb, length, get_or}
+use Rattle.std.proofs.Common.{◌∙◌, arith}
+use Rattle.std.specs.Prelude.{◌⊎◌, Bool, ◌||◌, ℕ, suc, ◌<◌, eqb, get_or}
 use Rattle.std.proofs.Math.Logic.{inl, inr, ⊎_elim}
-use Rattle.std.proofs.Math.Bool.{true, false, cond, or-true, or-false}
+use Rattle.std.proofs.Math.Bool.{true, false, cond}
 use mathlib.Core.List.{List, [], ◌∷◌}
 use Rattle.paper.specs.Lists.{mem, tally}
 use Rattle.paper.specs.Graph.{Graph, clock, wanted, ValidGraph as ValidGraph}
 use Rattle.paper.specs.ProofWords.{Extends}
-use Rattle.paper.proofs.Bools.{by_bool, below_suc, mem_single, mem_place}
+use Rattle.paper.proofs.Bools.{below_suc, mem_single, mem_place}
 use Rattle.paper.proofs.Extend.{valid_add, wanted_add, new_unwanted, clock_extend}
 use Rattle.paper.specs.Lists.{hash_at}
-use Rattle.hash.specs.Hash.{find_hash}
 use Rattle.hash.specs.HashLaws.{FoundIs, find_is}
 use Rattle.hash.specs.declared.Found.TheVariants.{Unknown as Nowhere}
-use Rattle.tables.specs.Tables.{Tables, changes, edges, actors, change_room_of, actor_room, actor_at, seq_at, max_op_at, ops_at, head_at, entry_at, graph}
-use Rattle.tables.specs.Valid.{Counts, HashesDistinct, NumbersAt, Numbers, Running, Heads, Rows, Sound, Valid, count_of}
+use Rattle.tables.specs.Tables.{Tables, changes, actors, actor_room, actor_at, seq_at, head_at, entry_at, graph}
+use Rattle.tables.specs.Valid.{Counts, HashesDistinct, NumbersAt, Numbers, Running, Heads, Rows, Valid, count_of}
 use Rattle.tables.specs.DepsLaws.{valid_graph}
 use Rattle.judge.specs.declared.Judged.TheVariants.{Done}
 use Rattle.paper.specs.Adding.{Change}
 use Rattle.judge.specs.Judge.{deps_given, tables_judged}
-use Rattle.judge.specs.JudgeLaws.{Accepted, accepted}
+use Rattle.judge.specs.JudgeLaws.{Accepted}
+use Rattle.judge.proofs.Accepted.{accepted}
 use Rattle.graph.specs.Place.{deps_of, stored}
-use Rattle.graph.specs.PlaceLaws.{Fits, fits, deps_long, nodes_low}
+use Rattle.graph.specs.PlaceLaws.{fits, deps_long, nodes_low}
 use Rattle.graph.specs.Grown.{new_changes, new_edges, new_actors, new_width, new_lengths, hashes_long, targets_long, old_hash, new_hash, old_number, old_actor, old_head, new_actor, new_seq, new_max, new_ops, new_head, new_laid, old_deps, new_deps, old_entry, new_entry}
 
 -- the graph g' is g with the change x as its last node, whose dependencies are the nodes ds

@@ -1,26 +1,25 @@
 -- Adding to the tables is the paper's adding to the graph that they hold.
 -- Assumes nothing.
-use Rattle.std.specs.Prelude.{◌≡◌, refl, true, false, cond, List, [], ◌∷◌, map, ℕ, zero, suc, ◌+◌, ◌/◌, ◌≤◌, ◌<◌, eqb, length}
+use Rattle.std.specs.Prelude.{◌≡◌, refl, List, ◌∷◌, map, ℕ, zero, suc, ◌+◌, ◌/◌, ◌<◌}
 use Rattle.std.proofs.Common.{sym, ap₂, subst, ◌∙◌, arith}
 use Rattle.std.proofs.Math.Path.{ap}
 use Rattle.std.proofs.Math.Decide.{ℕ_discrete}
 use borrow.Author.Tests.{eq-eqb, ne_eqb}
 use Rattle.paper.specs.Lists.{hash_at, hashes_from, hashes_of}
-use Rattle.paper.specs.Numbers.{number}
 use Rattle.paper.specs.Graph.{Graph, node, nodes}
-use Rattle.paper.specs.Adding.{Hub, Change, Verdict, outcome, accepts, judged as paper-judged, put, grown, added as paper-added}
+use Rattle.paper.specs.Adding.{Change, accepts, put, grown, added as paper-added}
 use Rattle.paper.proofs.Bools.{below_suc}
 use Rattle.paper.proofs.Same.{SameGraph, SameHub, same_hub}
 use Rattle.hash.specs.Hash.{find_hash}
 use Rattle.hash.specs.declared.Found.{Found}
 use Rattle.hash.specs.declared.Found.TheVariants.{At, Unknown as Nowhere}
-use Rattle.tables.specs.Tables.{Tables, changes, change_room_of, edge_room_of, graph}
+use Rattle.tables.specs.Tables.{Tables, changes, graph}
 use Rattle.tables.specs.Valid.{Valid}
 use Rattle.tables.specs.NodeLaws.{node_at}
-use Rattle.judge.specs.declared.Judged.{Judged}
 use Rattle.judge.specs.declared.Judged.TheVariants.{Done}
-use Rattle.judge.specs.Judge.{deps_given, tables_judged, verdict, judged_number}
-use Rattle.judge.specs.JudgeLaws.{Accepted, accepted, is_done}
+use Rattle.judge.specs.Judge.{deps_given, tables_judged, judged_number}
+use Rattle.judge.specs.JudgeLaws.{Accepted, is_done}
+use Rattle.judge.proofs.Accepted.{accepted}
 use Rattle.judge.specs.Hub.{hub}
 use Rattle.judge.specs.HubLaws.{judged_agrees}
 use Rattle.graph.specs.Place.{node_of, nodes_from, deps_of, placed, added_tables}

@@ -1,7 +1,7 @@
 -- What an accepted change leaves as it was, and what it brings: histories and clocks of the older nodes, its own clock, the heads.
 -- Assumes nothing.
-use Rattle.std.specs.Prelude.{◌≡◌, refl, Bool, true, false, ◌&&◌, ◌||◌, ℕ, suc, ◌<◌, max}
-use Rattle.std.proofs.Common.{sym, ap₂, ◌∙◌, arith}
+use Rattle.std.specs.Prelude.{◌≡◌, Bool, true, ◌||◌, ℕ, ◌<◌, max}
+use Rattle.std.proofs.Common.{◌∙◌}
 use Rattle.std.proofs.Math.Path.{ap}
 use Rattle.std.proofs.Math.Bool.{not, cond}
 use mathlib.Core.List.{List, [], ◌∷◌, ◌++◌}
@@ -16,7 +16,8 @@ use Rattle.tables.specs.Tables.{Tables, changes, graph}
 use Rattle.tables.specs.Valid.{Valid}
 use Rattle.judge.specs.declared.Judged.TheVariants.{Done}
 use Rattle.judge.specs.Judge.{tables_judged}
-use Rattle.judge.specs.JudgeLaws.{Accepted, accepted}
+use Rattle.judge.specs.JudgeLaws.{Accepted}
+use Rattle.judge.proofs.Accepted.{accepted}
 use Rattle.judge.specs.Hub.{hub}
 use Rattle.graph.specs.Place.{deps_of, placed, added_tables, adds}
 use Rattle.graph.specs.Grown.{new_changes, new_deps}

@@ -1,6 +1,6 @@
 -- The tables after a change is placed.
 -- Assumes nothing.
-use Rattle.std.specs.Prelude.{Bool, cond, List, [], ◌∷◌, ℕ, zero, suc, ◌+◌, ◌*◌, ◌/◌, eqb, length, set, replicate}
+use Rattle.std.specs.Prelude.{cond, List, [], ◌∷◌, ℕ, zero, suc, ◌+◌, ◌*◌, ◌/◌, eqb, length, set, replicate}
 use Rattle.std.proofs.Math.Seq.{paste}
 use Rattle.paper.specs.Lists.{hash_at}
 use Rattle.paper.specs.Caching.{cache_due}

@@ -1,6 +1,6 @@
 -- The steps of placing: what the new edges are, and how head flags are taken away.
 -- Assumes nothing.
-use Rattle.std.specs.Prelude.{◌≡◌, refl, Bool, true, false, cond, List, [], ◌∷◌, ℕ, zero, suc, ◌+◌, ◌*◌, ◌-◌, ◌/◌, ◌%◌, ◌≤◌, ◌<◌, eqb, length, get_or, set}
+use Rattle.std.specs.Prelude.{◌≡◌, refl, cond, List, [], ◌∷◌, ℕ, zero, suc, ◌+◌, ◌*◌, ◌-◌, ◌/◌, ◌%◌, ◌≤◌, ◌<◌, eqb, length, get_or, set}
 use Rattle.std.proofs.Common.{sym, ap, subst, ◌∙◌, add-one, arith, length-set, get_or-set_same, get_or-set_other, eqb-true, eq-eqb, ne_eqb, mul-le-mul, mul-le-mul_right, suc-mul}
 use Rattle.std.proofs.Math.Seq.{slice, slice_empty, slice-cons}
 use Rattle.std.proofs.lemmas.Bool.{eqb-false}
@@ -12,10 +12,9 @@ use Rattle.hash.specs.HashLaws.{FoundIs, find_is}
 use Rattle.hash.specs.Unknown.{Known, MissingIs, unknown_is}
 use Rattle.hash.specs.declared.Found.{Found}
 use Rattle.hash.specs.declared.Found.TheVariants.{At, Unknown as Nowhere}
-use Rattle.hash.specs.declared.Missing.{Missing}
-use Rattle.hash.specs.declared.Missing.TheVariants.{First, Nothing}
-use Rattle.list_laws.specs.Paste.{paste_long, paste_low, paste_in, paste_part}
-use Rattle.tables.specs.Tables.{Tables, tables, changes, edges, actors, change_room_of, actor_room, actor_at}
+use Rattle.hash.specs.declared.Missing.TheVariants.{Nothing}
+use Rattle.list_laws.specs.Paste.{paste_long, paste_in, paste_part}
+use Rattle.tables.specs.Tables.{Tables, tables, changes, edges, change_room_of, actor_room, actor_at}
 use Rattle.tables.specs.Valid.{Valid}
 use Rattle.tables.specs.CheckLaws.{tally_bound}
 use Rattle.paper.specs.Adding.{Change}

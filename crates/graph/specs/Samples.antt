@@ -6,7 +6,7 @@ use Rattle.hash.specs.Hash.{same_hash, find_from, find_hash, unknown_from, first
 use Rattle.paper.specs.Lists.{mem, pick, tally, some_below}
 use Rattle.paper.specs.Graph.{wanted, head_nodes}
 use Rattle.tables.specs.Tables.{Tables, tables, width_of, links, graph}
-use Rattle.judge.specs.declared.Judged.TheVariants.{Done, Known, Unknown, WrongSequence, BadOps, NoNodeRoom}
+use Rattle.judge.specs.declared.Judged.TheVariants.{Done, Known, Unknown, NoNodeRoom}
 use Rattle.paper.specs.Adding.{Change}
 use Rattle.judge.specs.Judge.{change, tables_judged}
 use Rattle.graph.specs.Place.{nodes_from, nexts_from, unheaded, stored}

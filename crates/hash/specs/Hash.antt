@@ -1,5 +1,5 @@
 -- What the table of hashes says: hash k, whether it is a given one, and the first that is.
-use Rattle.std.specs.Prelude.{ℕ, zero, suc, ◌*◌, ◌/◌, List, [], ◌∷◌, Bool, true, false, cond, length, take, drop, eqb, ltb}
+use Rattle.std.specs.Prelude.{ℕ, zero, suc, ◌/◌, List, Bool, cond, length}
 use Rattle.paper.specs.Lists.{hash_at, same_list, less_list}
 use Rattle.hash.specs.declared.Found.{Found}
 use Rattle.hash.specs.declared.Found.TheVariants.{At, Unknown}

@@ -1,12 +1,12 @@
 -- Laws of the definitions of Hash.antt.
-use Rattle.std.specs.Prelude.{◌≡◌, refl, ◌↔◌, ℕ, zero, suc, ◌+◌, ◌-◌, ◌*◌, ◌<◌, ◌≤◌, List, [], ◌∷◌, Bool, true, false, cond, length, take, drop, get_or, eqb}
-use Rattle.std.proofs.Common.{sym, ap, subst, ◌∙◌, ⊎_elim, add-one, length-take, length-drop, drop_of_length-le, get_or-take, get_or-drop, not-suc-le-zero, le_of_suc-le-suc, eq-or-lt_of_le}
+use Rattle.std.specs.Prelude.{◌≡◌, refl, ◌↔◌, ℕ, zero, suc, ◌+◌, ◌-◌, ◌*◌, ◌<◌, ◌≤◌, List, Bool, true, false, cond, length, take, drop, get_or}
+use Rattle.std.proofs.Common.{sym, subst, ◌∙◌, ⊎_elim, add-one, length-take, length-drop, drop_of_length-le, get_or-take, get_or-drop, not-suc-le-zero, le_of_suc-le-suc, eq-or-lt_of_le}
 use native.Mathlib.Omega.{arith}
 use Rattle.std.proofs.lemmas.Bool.{false≢true}
 use Rattle.std.proofs.Math.Seq.{drop-cons}
 use Rattle.hash.specs.declared.Found.{Found}
 use Rattle.hash.specs.declared.Found.TheVariants.{At, Unknown}
-use borrow.Author.Tests.{eq-eqb, ne_eqb, eqb-true}
+use borrow.Author.Tests.{eq-eqb, ne_eqb}
 use Rattle.paper.specs.Lists.{hash_at, same_list}
 use Rattle.paper.proofs.Hashes.{same_refl, same→eq}
 use Rattle.hash.specs.Hash.{same_hash, find_from, find_hash}

@@ -1,8 +1,8 @@
 -- Worked examples, computed: the sample of the paper, Hn being the byte 16 n + n 32 times.
-use Rattle.std.specs.Prelude.{◌≡◌, refl, ℕ, ◌+◌, ◌*◌, List, [], ◌∷◌, ◌++◌, true, false, replicate}
+use Rattle.std.specs.Prelude.{◌≡◌, refl, ℕ, ◌*◌, List, ◌++◌, true, replicate}
 use Rattle.paper.specs.Lists.{hash_at, same_list, less_list}
 use Rattle.hash.specs.Hash.{same_hash, find_from, find_hash, less_hash, unknown_from, first_unknown}
-use Rattle.hash.specs.declared.Found.TheVariants.{At, Unknown}
+use Rattle.hash.specs.declared.Found.TheVariants.{At}
 use Rattle.hash.specs.declared.Missing.TheVariants.{First, Nothing}
 
 abbrev H : ℕ → List ℕ

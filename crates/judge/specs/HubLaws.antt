@@ -1,6 +1,6 @@
 -- The judgement over the tables is the paper's judgement over the graph that they hold.
 -- Assumes nothing.
-use Rattle.std.specs.Prelude.{◌≡◌, refl, true, false, cond, ◌||◌, List, ℕ, zero, suc, ◌+◌, ◌-◌, ◌/◌, ◌≤◌, eqb, ltb, leb, length}
+use Rattle.std.specs.Prelude.{◌≡◌, refl, cond, ◌||◌, List, ℕ, zero, suc, ◌+◌, ◌-◌, ◌/◌, ◌≤◌, eqb, ltb, leb, length}
 use Rattle.std.proofs.Common.{sym, ap, ◌∙◌, arith, add-one, lt-ltb, le-ltb, ltb-true, ltb-false}
 use Rattle.std.proofs.Math.Seq.{length-slice}
 use Rattle.paper.specs.Lists.{sum_below, hash_at, hashes_from, hashes_of}

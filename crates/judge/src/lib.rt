@@ -1,4 +1,6 @@
 // Judging a change: what adding it would come to. Nothing is changed.
+#![tactic(auto)]
+
 ghost use Rattle.std.specs.Prelude.{◌≡◌, ◌*◌, ◌≤◌, length};
 ghost use Rattle.tables.specs.Tables.{tables};
 ghost use Rattle.tables.specs.Valid.{Valid, count_of};
@@ -7,7 +9,7 @@ ghost use Rattle.judge.specs.Judge.{change, tables_judged, judged_number};
 use hash::{Found, Missing};
 
 // What adding a change comes to.
-#[derive(Drop)]
+#[derive(Clone, Copy)]
 pub enum Judged {
     Done,
     Malformed,

@@ -1,26 +1,25 @@
 -- An accepted load, in the paper's words: each of the columns' changes is accepted when its turn comes, so the graph has exactly the
 -- changes that the columns list, in order, and the stated heads are its heads.
 -- Assumes nothing.
-use Rattle.std.specs.Prelude.{◌≡◌, Bool, true, false, not, cond, ◌||◌, ltb, leb, take, drop}
+use Rattle.std.specs.Prelude.{◌≡◌, true, false, take, drop}
 use Rattle.std.proofs.Math.Path.{refl, ap, ap₂}
-use Rattle.std.proofs.Common.{sym, subst, ◌∙◌, length-append, length-take, length-drop, take_at, drop_at, drop-drop}
+use Rattle.std.proofs.Common.{sym, ◌∙◌, length-take, length-drop, take_at, drop_at, drop-drop}
 use mathlib.Core.List.{List, [], ◌∷◌, ◌++◌, map}
 use Prim.Native.Nat.{ℕ, zero, suc, ◌+◌, ◌*◌, ◌/◌, ◌%◌, ◌≤◌, ◌<◌}
 use native.Mathlib.Omega.{arith}
 use Rattle.std.proofs.Math.Dec.{eqb}
 use Rattle.std.proofs.Math.ListN.{length, get_or, length-map}
-use Rattle.std.proofs.lemmas.List.{take-append-le, drop-append-le}
-use borrow.Author.Tests.{eq-eqb, ne_eqb, lt-ltb, le-ltb, le-leb, lt-leb}
-use Rattle.paper.specs.Lists.{mem, tally, sum_below, each_below, same_list, hash_at, hashes_from, hashes_of}
+use borrow.Author.Tests.{eq-eqb, ne_eqb, lt-ltb, le-ltb, lt-leb}
+use Rattle.paper.specs.Lists.{mem, sum_below, same_list, hash_at, hashes_from, hashes_of}
 use Rattle.paper.specs.Numbers.{done}
-use Rattle.paper.specs.Graph.{Graph, node, nodes, heads}
+use Rattle.paper.specs.Graph.{Graph, node, nodes}
 use Rattle.paper.specs.ProofWords.{Extends}
-use Rattle.paper.specs.Adding.{Hub, Change, Verdict, plain, judged, accepts, seq_for_actor, edges_used, first_unknown_place, put, grown, added}
-use Rattle.paper.specs.Loading.{Columns, listed_changes, deps_before, deps_of_columns, column_graph, same_hashes, hashes_at, change_of_columns}
+use Rattle.paper.specs.Adding.{Hub, plain, judged, seq_for_actor, edges_used, first_unknown_place, put, grown}
+use Rattle.paper.specs.Loading.{Columns, listed_changes, deps_before, deps_of_columns, column_graph, hashes_at, change_of_columns}
 use Rattle.paper.proofs.Bools.{below_suc, or_left, or_right, tally_ext}
 use Rattle.paper.proofs.First.{first_none, first_is}
 use Rattle.paper.proofs.Scans.{sum_next, sum_more}
-use Rattle.paper.proofs.Hashes.{same_refl, eq→same}
+use Rattle.paper.proofs.Hashes.{same_refl}
 use Rattle.paper.proofs.Loading.{Agreed}
 use Rattle.hash.specs.HashLaws.{hash_length}
 use Rattle.load.specs.LoadLaws.{at_long}

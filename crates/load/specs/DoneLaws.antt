@@ -1,8 +1,8 @@
 -- What an accepted load gives, and the tables opened for it.
 -- Assumes nothing.
-use Rattle.std.specs.Prelude.{◌≡◌, Bool, true, false, cond, List, [], ◌∷◌, ℕ, zero, suc, ◌%◌, ◌≤◌, ◌<◌, eqb, ltb, length, set}
+use Rattle.std.specs.Prelude.{◌≡◌, true, List, [], ℕ, ◌%◌, ◌≤◌, eqb, ltb, length, set}
 use Rattle.std.proofs.Math.Path.{refl}
-use Rattle.std.proofs.Common.{sym, ap, subst, ◌∙◌, arith, eq-eqb, ne_eqb, eqb-true, ltb-false}
+use Rattle.std.proofs.Common.{sym, ap, subst, arith, eq-eqb, ne_eqb, eqb-true, ltb-false}
 use Rattle.paper.specs.Numbers.{number}
 use Rattle.paper.specs.Loading.{Columns, listed_changes, deps_before, agree, judged_load, changes_of}
 use Rattle.paper.proofs.Bools.{by_bool}

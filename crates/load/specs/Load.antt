@@ -1,6 +1,6 @@
 -- Loading: the tables after it, and what filling them needs.
 -- Assumes nothing.
-use Rattle.std.specs.Prelude.{◌≡◌, Bool, true, cond, List, ℕ, ◌+◌, ◌*◌, ◌≤◌, ◌<◌, eqb, length, get_or}
+use Rattle.std.specs.Prelude.{◌≡◌, true, cond, List, ℕ, ◌+◌, ◌*◌, ◌≤◌, ◌<◌, eqb, length, get_or}
 use Rattle.paper.specs.Lists.{mem}
 use Rattle.paper.specs.Numbers.{Outcome, number}
 use Rattle.paper.specs.Loading.{Columns, listed_changes, deps_before, deps_of_columns, changes_of, judged_load}

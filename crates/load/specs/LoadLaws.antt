@@ -1,18 +1,17 @@
 -- The steps of filling the tables: the dependencies' hashes one after the other, and the changes added one after the other.
 -- Assumes nothing.
-use Rattle.std.specs.Prelude.{◌≡◌, refl, Bool, true, false, cond, ℕ, zero, suc, ◌+◌, ◌-◌, ◌*◌, ◌/◌, ◌≤◌, ◌<◌, eqb, length, take, drop}
+use Rattle.std.specs.Prelude.{◌≡◌, refl, true, ℕ, ◌+◌, ◌-◌, ◌*◌, ◌≤◌, ◌<◌, eqb, length, take, drop}
 use Rattle.std.proofs.Math.Path.{sym, ap}
-use Rattle.std.proofs.Common.{ap₂, subst, ◌∙◌, add-one, eq-or-lt_of_le, length-append, length-take, length-drop, take-append-drop, take-suc, take_at, take_all, drop_at, drop-drop, length-take-le, eq-eqb}
+use Rattle.std.proofs.Common.{ap₂, subst, ◌∙◌, add-one, length-append, length-take, length-drop, take-append-drop, take-suc, take_at, drop_at, drop-drop, length-take-le, eq-eqb}
 use mathlib.Core.List.{List, [], ◌∷◌, ◌++◌, append_assoc, append-nil}
 use native.Mathlib.Omega.{arith}
 use Rattle.std.proofs.Math.ListN.{get_or}
 use Rattle.std.proofs.Math.Seq.{paste, take-length}
 use Rattle.paper.specs.Lists.{mem, hash_at, sum_below, each_below}
 use Rattle.paper.specs.Adding.{Change}
-use Rattle.paper.specs.Loading.{Columns, listed_changes, deps_before, deps_of_columns, column_graph, hashes_at, change_of_columns, changes_of}
+use Rattle.paper.specs.Loading.{Columns, listed_changes, deps_before, deps_of_columns, hashes_at, change_of_columns, changes_of}
 use Rattle.paper.proofs.Bools.{or_left, or_right, mem_get_d, mem_append}
 use Rattle.paper.proofs.Scans.{sum_next, sum_more}
-use Rattle.paper.proofs.Loading.{Agreed}
 use Rattle.hash.specs.HashLaws.{hash_length}
 use Rattle.tables.specs.Tables.{Tables}
 use Rattle.tables.specs.Valid.{Valid}

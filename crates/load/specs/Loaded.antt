@@ -1,6 +1,6 @@
 -- The theorem of loading: where the columns are accepted, the tables then hold exactly what they list.
 -- Assumes nothing.
-use Rattle.std.specs.Prelude.{◌≡◌, refl, Bool, true, List, [], ◌∷◌, ◌++◌, eqb}
+use Rattle.std.specs.Prelude.{◌≡◌, refl, true}
 use Rattle.std.proofs.Common.{sym, ap, ◌∙◌, arith}
 use Rattle.std.proofs.Math.Path.{subst}
 use Prim.Native.Nat.{ℕ, zero, suc, ◌≤◌, ◌<◌}
@@ -8,14 +8,14 @@ use Rattle.paper.specs.Lists.{each_below, hashes_of}
 use Rattle.paper.specs.Numbers.{number, done}
 use Rattle.paper.specs.Graph.{Graph, heads}
 use Rattle.paper.specs.ProofWords.{Extends}
-use Rattle.paper.specs.Adding.{Hub, Change, Verdict, plain, outcome, accepts, grown, added as paper-added, judged as paper-judged}
-use Rattle.paper.specs.Loading.{Columns, listed_changes, deps_before, column_graph, same_hashes, change_of_columns, changes_of}
+use Rattle.paper.specs.Adding.{Verdict, plain, outcome, accepts, grown, added as paper-added, judged as paper-judged}
+use Rattle.paper.specs.Loading.{Columns, listed_changes, column_graph, same_hashes, change_of_columns, changes_of}
 use Rattle.paper.proofs.Same.{SameGraph, SameHub, heads_same}
 use Rattle.paper.proofs.Loading.{Agreed, agreed}
 use Rattle.tables.specs.Tables.{Tables, changes, actors, change_room_of, edge_room_of, actor_room, graph}
 use Rattle.tables.specs.Valid.{Lengths, Valid}
 use Rattle.judge.specs.declared.Judged.TheVariants.{Done}
-use Rattle.judge.specs.Judge.{tables_judged, verdict, judged_number}
+use Rattle.judge.specs.Judge.{tables_judged}
 use Rattle.judge.specs.JudgeLaws.{is_done}
 use Rattle.judge.specs.Hub.{hub}
 use Rattle.judge.specs.HubLaws.{judged_agrees}

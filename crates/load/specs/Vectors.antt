@@ -1,6 +1,6 @@
 -- Small columns, computed: the three changes of the paper's worked list, and one thing bent at a time.
 -- Assumes nothing.
-use Rattle.std.specs.Prelude.{◌≡◌, refl, Bool, true, false, not, cond, ◌&&◌, ◌||◌, List, [], ◌∷◌, ◌++◌, map, ℕ, ◌+◌, replicate, drop}
+use Rattle.std.specs.Prelude.{◌≡◌, refl, List, [], ◌∷◌, ◌++◌, map, ℕ, replicate, drop}
 use Rattle.paper.specs.Lists.{mem, pick, tally, some_below, all_below, all_in, sum_below, every, same_list, less_list, names, enter, ascending, hash_at, hashes_from, hashes_of}
 use Rattle.paper.specs.Numbers.{Outcome, number}
 use Rattle.paper.specs.Graph.{wanted, head_nodes, heads}

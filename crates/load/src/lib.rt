@@ -1,6 +1,8 @@
 // Loading decoded columns: they are judged by themselves, and where they are accepted the graph is opened and their changes are added in
 // order. On any other answer nothing is changed. `ids` is the column of hashes, `deps` that of dependency counts, `values` the
 // dependencies of all changes as node numbers, one after the other.
+#![tactic(auto)]
+
 ghost use Rattle.std.specs.Prelude.{◌≡◌, [], ◌++◌, ◌+◌, ◌*◌, ◌≤◌, length, drop};
 ghost use Rattle.paper.specs.Lists.{hash_at};
 ghost use Rattle.paper.specs.Loading.{hashes_at, changes_of};

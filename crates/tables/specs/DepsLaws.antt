@@ -1,9 +1,9 @@
 -- What laid edges say of the graph: a node's dependencies are a part of the target table.
 -- Assumes nothing.
-use Prim.Native.Nat.{ℕ, zero, suc, ◌+◌, ◌*◌, ◌-◌, ◌≤◌, ◌<◌}
-use Rattle.std.specs.Prelude.{◌≡◌, Bool, true, false, length, take, drop}
+use Prim.Native.Nat.{ℕ, zero, suc, ◌+◌, ◌-◌, ◌≤◌, ◌<◌}
+use Rattle.std.specs.Prelude.{◌≡◌, Bool, true, length, take}
 use Rattle.std.proofs.Math.Path.{refl, sym, ap, ap₂, subst}
-use Rattle.std.proofs.Common.{◌∙◌, ⊎_elim, length-take, length-drop, get_or-drop, get_or-take, add-one}
+use Rattle.std.proofs.Common.{◌∙◌, ⊎_elim, get_or-drop, get_or-take, add-one}
 use Rattle.std.proofs.Math.Bool.{cond}
 use mathlib.Core.List.{List, [], ◌∷◌}
 use Rattle.std.proofs.Math.Dec.{eqb}
@@ -14,7 +14,7 @@ use native.Mathlib.Omega.{arith}
 use Rattle.std.proofs.Math.Decide.{dec_lt}
 use Rattle.paper.specs.Lists.{mem, some_below}
 use Rattle.paper.specs.Graph.{wanted, ValidGraph as ValidGraph}
-use Rattle.paper.proofs.Bools.{same_bool, mem_nil, mem_place, mem_get_d, some_of, of_some}
+use Rattle.paper.proofs.Bools.{same_bool, mem_place, mem_get_d, some_of, of_some}
 use Rattle.tables.specs.Tables.{Tables, changes, edges, first_at, links, along, graph}
 use Rattle.tables.specs.Valid.{Run, Laid, Running, Sound, Heads}
 use Rattle.tables.specs.Valid.Run.{last, more}
@@ -32,7 +32,7 @@ module _ (ts xs : List ℕ) (k : ℕ) where
   -- along a run stand its edges' targets, in order
   pub run_links : {c d : ℕ} → Run ts xs k c d → (f : ℕ) → d ≤ c + f → d ≤ length ts → links ts xs f (suc c) ≡ slice c d ts
   unfolding links
-  run_links r zero b l = let z = run_grows ts xs k r in absurd (omega arith)
+  run_links {c} r zero b l = let z = run_grows ts xs k r in absurd (omega arith)
   run_links {c} {d} (last h e q) (suc f) b l =
       let n : suc c ≡ d = omega arith in
       ap (λ (x : ℕ). get_or ts c 0 ∷ links ts xs f x) e ∙ ap (λ (r : List ℕ). get_or ts c 0 ∷ r) (links_end ts xs f ∙ sym (slice_empty d ts) ∙ ap (λ (x : ℕ). slice x d ts) (sym n)) ∙ sym (slice-cons c d ts 0 (omega arith) l)
@@ -40,13 +40,13 @@ module _ (ts xs : List ℕ) (k : ℕ) where
       let z = run_grows ts xs k r in
       let n : suc (c + 1) ≡ c + 2 = omega arith in
       ap (λ (x : ℕ). get_or ts c 0 ∷ links ts xs f x) (e ∙ sym n)
-      ∙ ap (λ (s : List ℕ). get_or ts c 0 ∷ s) (run_links r f (omega arith) l ∙ ap (λ (x : ℕ). slice x d ts) (add-one c))
+      ∙ ap (λ (s : List ℕ). get_or ts c 0 ∷ s) (run_links {c = c + 1} r f (omega arith) l ∙ ap (λ (x : ℕ). slice x d ts) (add-one c))
       ∙ sym (slice-cons c d ts 0 (omega arith) l)
 
   pub run_target : {c d : ℕ} → Run ts xs k c d → (i : ℕ) → c ≤ i → i < d → get_or ts i 0 < k
   run_target {c} (last h e q) i b l = let n : i ≡ c = omega arith in rw n h
   run_target {c} (more h e r) i b l = elim (dec_lt c i) [
-    | yes x ↦ run_target r i (omega arith) l
+    | yes x ↦ run_target {c = c + 1} r i (omega arith) l
     | no x ↦ (let n : i ≡ c = omega arith in rw n h)
   ]
 

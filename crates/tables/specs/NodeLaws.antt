@@ -1,13 +1,12 @@
 -- What a search in the table of hashes finds is the paper's node of the hash.
 -- Assumes nothing.
-use Rattle.std.specs.Prelude.{◌≡◌, refl, Bool, true, false, cond, List, ℕ, zero, suc, ◌+◌, ◌≤◌, ◌<◌, ltb}
-use Rattle.std.proofs.Common.{sym, ap, ◌∙◌, lt-ltb, le-ltb, ltb-true, ltb-false}
+use Rattle.std.specs.Prelude.{◌≡◌, List, ℕ, zero, suc, ◌+◌, ◌≤◌, ◌<◌, ltb}
+use Rattle.std.proofs.Common.{sym, ◌∙◌, lt-ltb, le-ltb, ltb-true, ltb-false}
 use native.Mathlib.Omega.{arith}
 use Rattle.paper.specs.Lists.{hash_at, same_list, first_from, first_below}
 use Rattle.paper.specs.Graph.{node}
 use Rattle.paper.proofs.Bools.{by_bool}
 use Rattle.hash.specs.Hash.{same_hash, find_from, find_hash}
-use Rattle.hash.specs.declared.Found.{Found}
 use Rattle.hash.specs.declared.Found.TheVariants.{At, Unknown}
 use Rattle.tables.specs.Tables.{Tables, changes, graph}
 use Rattle.tables.specs.Node.{found_as}

@@ -1,8 +1,8 @@
 -- Valid tables, part by part: what number 1 speaks of.
 -- Assumes nothing.
-use Rattle.std.specs.Prelude.{◌≡◌, ◌⊎◌, Bool, cond, List, [], ◌∷◌, ℕ, suc, ◌+◌, ◌*◌, ◌/◌, ◌≤◌, ◌<◌, eqb, length, get_or}
+use Rattle.std.specs.Prelude.{◌≡◌, ◌⊎◌, cond, List, [], ◌∷◌, ℕ, suc, ◌+◌, ◌*◌, ◌/◌, ◌≤◌, ◌<◌, eqb, length, get_or}
 use Rattle.paper.specs.Lists.{hash_at}
-use Rattle.paper.specs.Lists.{some_below, tally}
+use Rattle.paper.specs.Lists.{tally}
 use Rattle.paper.specs.Graph.{wanted, clock}
 use Rattle.tables.specs.Tables.{Tables, changes, edges, actors, change_room_of, edge_room_of, actor_room, width_of, actor_at, seq_at, max_op_at, ops_at, first_at, head_at, entry_at, graph}
 

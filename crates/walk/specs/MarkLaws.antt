@@ -1,7 +1,7 @@
 -- The steps of marking, along an edge list and along a list of nodes.
 -- Assumes nothing.
-use Rattle.std.specs.Prelude.{◌≡◌, refl, Bool, true, false, cond, ◌||◌, List, [], ◌∷◌, ℕ, zero, suc, ◌+◌, ◌-◌, ◌≤◌, ◌<◌, eqb, ltb, length, get_or, set, drop}
-use Rattle.std.proofs.Common.{sym, ap, ◌∙◌, subst, add-one, arith, length-set, drop_of_length-le, get_or-set_same, get_or-set_other, eqb-true, ltb-true, ltb-false, lt-ltb, le-ltb}
+use Rattle.std.specs.Prelude.{◌≡◌, refl, Bool, cond, ◌||◌, List, ◌∷◌, ℕ, suc, ◌+◌, ◌-◌, ◌≤◌, ◌<◌, eqb, length, get_or, set, drop}
+use Rattle.std.proofs.Common.{sym, ap, ◌∙◌, subst, add-one, arith, length-set, drop_of_length-le, get_or-set_same, get_or-set_other, eqb-true}
 use Rattle.std.proofs.Math.Bool.{or-true, or-false}
 use Rattle.std.proofs.Math.Seq.{slice, slice_empty, slice-cons}
 use Rattle.std.proofs.lemmas.Bool.{eqb-false}

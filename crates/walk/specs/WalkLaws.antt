@@ -1,12 +1,12 @@
 -- The steps of the walk.
 -- Assumes nothing.
-use Rattle.std.specs.Prelude.{◌≡◌, refl, ◌⊎◌, Bool, false, not, ◌&&◌, ◌||◌, List, [], ◌∷◌, eqb, ltb, set}
+use Rattle.std.specs.Prelude.{◌≡◌, refl, Bool, false, ◌||◌, List, [], ◌∷◌, eqb, ltb, set}
 use Rattle.std.proofs.Math.Path.{sym, ap}
-use Rattle.std.proofs.Common.{ap₂, ◌∙◌, subst, inl, inr, ⊎_elim, add-one, arith, get_or-set_same, get_or-set_other}
+use Rattle.std.proofs.Common.{◌∙◌, subst, add-one, arith, get_or-set_same, get_or-set_other}
 use Rattle.std.proofs.Math.Bool.{true, cond, or-true, or-false}
 use Prim.Native.Nat.{ℕ, zero, suc, ◌+◌, ◌-◌, ◌*◌, ◌≤◌, ◌<◌, max}
-use Rattle.std.proofs.Math.ListN.{length, get_or, length-set, get_or-eq_default}
-use borrow.Author.Tests.{eqb-true, eqb-false, eq-eqb, ne_eqb, ltb-true, ltb-false, lt-ltb, le-ltb}
+use Rattle.std.proofs.Math.ListN.{length, get_or, length-set}
+use borrow.Author.Tests.{eqb-true, eqb-false, ne_eqb, ltb-false, lt-ltb, le-ltb}
 use Rattle.paper.specs.Lists.{mem, pick}
 use Rattle.paper.specs.Graph.{Graph, own, clock, look, ValidGraph as ValidGraph}
 use Rattle.paper.specs.ProofWords.{front}
@@ -15,7 +15,7 @@ use Rattle.paper.proofs.Bools.{by_bool, not-both, to_false, mem_nil, mem_pick, p
 use Rattle.paper.proofs.History.{look_at}
 use Rattle.paper.proofs.Walk.{front_ext, front_end, front_skip, front_cached, front_visit}
 use Rattle.paper.proofs.Cached.{left_skip, left_cached, left_visit, left_stop, left_ext, left_none}
-use Rattle.tables.specs.Tables.{Tables, changes, actors, actor_room, actor_at, seq_at, first_at, along, entry_at, graph}
+use Rattle.tables.specs.Tables.{Tables, changes, actor_at, seq_at, first_at, along, entry_at, graph}
 use Rattle.tables.specs.Valid.{Sound}
 use Rattle.tables.specs.DepsLaws.{valid_graph}
 use Rattle.walk.specs.Marks.{marked, MarkedBy}

@@ -1,7 +1,7 @@
 -- Whole walks: the clock of a list, and its history by marks.
 -- Assumes nothing.
-use Rattle.std.specs.Prelude.{◌≡◌, refl, Bool, true, false, cond, ◌&&◌, ◌||◌, List, [], ◌∷◌, ℕ, zero, suc, ◌+◌, ◌-◌, ◌≤◌, ◌<◌, max, eqb, ltb, length, get_or, set, replicate}
-use Rattle.std.proofs.Common.{sym, ◌∙◌, subst, not-suc-le-zero, arith, eqb-true, ltb-true, ltb-false, lt-ltb, le-ltb}
+use Rattle.std.specs.Prelude.{◌≡◌, refl, Bool, cond, ◌&&◌, ◌||◌, List, ℕ, suc, ◌+◌, ◌≤◌, ◌<◌, ltb, length, get_or, set, replicate}
+use Rattle.std.proofs.Common.{sym, ◌∙◌, arith, ltb-true, ltb-false, lt-ltb}
 use Rattle.std.proofs.Math.Path.{ap}
 use Rattle.std.proofs.Math.Bool.{or-false, and-false}
 use Rattle.std.proofs.lemmas.List.{length-replicate, get_or-replicate}
@@ -9,9 +9,8 @@ use Rattle.std.proofs.Math.ListN.{get_or-eq_default}
 use Rattle.list_laws.specs.Blend.{blend, blend_start, blend_length, blend_set, blend_end}
 use Rattle.paper.specs.Lists.{mem, each_below}
 use Rattle.paper.specs.Graph.{Graph, clock, look, pass, known, hist}
-use Rattle.paper.specs.ProofWords.{front}
-use Rattle.paper.proofs.Bools.{by_bool, not-both, to_false, mem_place, and_both}
-use Rattle.paper.proofs.History.{look_at, hist_known}
+use Rattle.paper.proofs.Bools.{by_bool, mem_place}
+use Rattle.paper.proofs.History.{look_at}
 use Rattle.paper.proofs.Walk.{front_start}
 use Rattle.paper.proofs.Each.{to_each}
 use Rattle.tables.specs.Tables.{Tables, changes, first_at, along, graph}

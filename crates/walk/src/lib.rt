@@ -1,4 +1,6 @@
 // The clock walk: marks, the walk from the highest marked node down, the clock of a list of nodes, and its history.
+#![tactic(auto)]
+
 ghost use Rattle.std.specs.Prelude.{◌≡◌, Bool, true, cond, ℕ, ◌+◌, ◌*◌, ◌≤◌, ◌<◌, max, length, get_or, replicate};
 ghost use Rattle.paper.specs.Lists.{each_below};
 ghost use Rattle.paper.specs.Graph.{hist, clock as clockOf};

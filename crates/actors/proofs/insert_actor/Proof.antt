@@ -19,42 +19,42 @@ T s = tables s.args.hashes.now s.args.nodes.now s.args.targets.now s.args.nexts.
 room : (s : tie.Start) → Rooms (T s)
 room s = rooms (T s) s.requires
 
-width : (c : tie.After-actor-room) → c.actor-room.result ≡ actor_room (T c.before.before.before.before.before.before.before.before.before.before)
-width c = c.actor-room.ensures
+width : (c : tie.After-actor_room-w) → c.actor_room-w.result ≡ actor_room (T c.before.before.before.before.before.before.before.before.before)
+width c = c.actor_room-w.ensures
 
-slice_read_n : tie.Need-slice-read-n
+slice_read_n : tie.Need-bounds-counts-0
 slice_read_n c = let r = (room c.before.before.before.before.before.before.before).counts_three in omega arith
 
-slice_read_a : tie.Need-slice-read-a
+slice_read_a : tie.Need-bounds-counts-2
 slice_read_a c = let r = (room c.before.before.before.before.before.before.before.before).counts_three in omega arith
 
-returns : tie.Need-returns
-returns c = (sym (inserting_high (T c.before.before.before.before.before.before.before.before.before.before.before) c.before.before.before.before.before.before.before.before.before.before.before.args.place c.if1.true), refl)
+returns : tie.Need-returns-then-a-place
+returns c = (sym (inserting_high (T c.before.before.before.before.before.before.before.before.before.before) c.args.place c.if-a-place.true), refl)
 
-returns_2 : tie.Need-returns-2
-returns_2 c = let w = width c.before.before in (sym (inserting_full (T c.before.before.before.before.before.before.before.before.before.before.before.before) c.before.before.before.before.before.before.before.before.before.before.before.before.args.place c.before.if1.false (omega (arith, c.if2.true))), refl)
+returns_2 : tie.Need-returns-then-w-a
+returns_2 c = let w = width c.before.before in (sym (inserting_full (T c.before.before.before.before.before.before.before.before.before.before.before) c.args.place c.if-a-place.false (omega (arith, c.if-w-a.true))), refl)
 
-renumber_up_requires : tie.Need-renumber-up-requires
-renumber_up_requires c κs = ((room c.before.before.before.before.before.before.before.before.before.before.before.before.before).nodes_fit, (room c.before.before.before.before.before.before.before.before.before.before.before.before.before).actors_low)
+renumber_up_requires : tie.Need-renumber_up-requires
+renumber_up_requires c κs = ((room c.before.before.before.before.before.before.before.before.before.before.before.before).nodes_fit, (room c.before.before.before.before.before.before.before.before.before.before.before.before).actors_low)
 
-widen_rows_requires : tie.Need-widen-rows-requires
-widen_rows_requires c κs = let s = c.before.before.before.before.before.before.before.before.before.before.before.before.before.before.before.before.before in
+widen_rows_requires : tie.Need-widen_rows-requires
+widen_rows_requires c κs = let s = c.before.before.before.before.before.before.before.before.before.before.before.before.before.before.before.before in
     let w = width c.before.before.before.before.before.before.before in
-    let r : changes (T s) * c.before.before.before.before.before.before.before.actor-room.result ≤ length s.args.clocks.now = rw w (room s).rows_fit in
-    (omega arith, omega (arith, c.before.before.before.before.before.before.if1.false, c.before.before.before.before.before.if2.false))
+    let r : changes (T s) * c.actor_room-w.result ≤ length s.args.clocks.now = rw w (room s).rows_fit in
+    (omega arith, omega (arith, c.if-a-place.false, c.if-w-a.false))
 
-add_counts : tie.Need-overflow-add-counts
-add_counts c = let f = (room c.before.before.before.before.before.before.before.before.before.before.before.before.before.before.before.before.before.before.before.before).actors_fit in let g = (room c.before.before.before.before.before.before.before.before.before.before.before.before.before.before.before.before.before.before.before.before).room_few in omega arith
+add_counts : tie.Need-overflow_add-counts
+add_counts c = let f = (room c.before.before.before.before.before.before.before.before.before.before.before.before.before.before.before.before.before.before.before).actors_fit in let g = (room c.before.before.before.before.before.before.before.before.before.before.before.before.before.before.before.before.before.before.before).room_few in omega arith
 
-slice_write_counts : tie.Need-slice-write-counts
-slice_write_counts c = let r = (room c.before.before.before.before.before.before.before.before.before.before.before.before.before.before.before.before.before.before.before.before).counts_three in omega arith
+slice_write_counts : tie.Need-bounds-counts-2-2
+slice_write_counts c = let r = (room c.before.before.before.before.before.before.before.before.before.before.before.before.before.before.before.before.before.before.before).counts_three in omega arith
 
-returns_3 : tie.Need-returns-3
-returns_3 c = let s = c.before.before.before.before.before.before.before.before.before.before.before.before.before.before.before.before.before.before.before.before in
+returns_3 : tie.Need-returns
+returns_3 c = let s = c.before.before.before.before.before.before.before.before.before.before.before.before.before.before.before.before.before.before.before in
     let w = width c.before.before.before.before.before.before.before.before.before.before in (
-      sym (inserting_done (T s) s.args.place c.before.before.before.before.before.before.before.before.before.if1.false (omega (arith, c.before.before.before.before.before.before.before.before.if2.false))),
-      ap₂ (λ (ns cs : List ℕ). tables s.args.hashes.now ns s.args.targets.now s.args.nexts.now cs (set s.args.counts.now 2 (actors (T s) + 1))) c.before.before.before.before.before.before.renumber-up.ensures
-          (c.before.before.widen-rows.ensures ∙ ap (λ (w : ℕ). rows_by (widen s.args.place) w (changes (T s)) s.args.clocks.now) w),
+      sym (inserting_done (T s) s.args.place c.if-a-place.false (omega (arith, c.if-w-a.false))),
+      ap₂ (λ (ns cs : List ℕ). tables s.args.hashes.now ns s.args.targets.now s.args.nexts.now cs (set s.args.counts.now 2 (actors (T s) + 1))) c.renumber_up.ensures
+          (c.widen_rows.ensures ∙ ap (λ (w : ℕ). rows_by (widen s.args.place) w (changes (T s)) s.args.clocks.now) w),
     )
 
 pub insert_actor_spec : {M : Type 1} → statement M

@@ -6,7 +6,7 @@ use Rattle.actors.proofs.narrow_row.Statement.{statement}
 use Rattle.actors.proofs.narrow_row.Tie as tie
 
 returns : tie.Need-returns
-returns c = let s = c.before.before.before.before.before in narrowed _ _ _ s.requires.0 s.requires.1 c.before.before.remove-actor.ensures
+returns c = let s = c.before.before.before.before.before in narrowed _ _ _ s.requires.0 s.requires.1 c.remove_actor.ensures
 
 pub narrow_row_spec : {M : Type 1} → statement M
 narrow_row_spec =

@@ -14,13 +14,13 @@ use Rattle.actors.proofs.open_empty.Tie as tie
 abbrev T : tie.Start → Tables
 T s = tables s.args.hashes.now s.args.nodes.now s.args.targets.now s.args.nexts.now s.args.clocks.now s.args.counts.now
 
-fits : (c : tie.Else1) → c.before.before.before.before.before.before.before.before.args.actors ≤ actor_room (T c.before.before.before.before.before.before.before.before)
-fits c = let e = c.before.actor-room.ensures in omega arith
+fits : (c : tie.Else-w-actors) → c.args.actors ≤ actor_room (T c.before.before.before.before.before.before.before.before)
+fits c = let e = c.actor_room-w.ensures in omega arith
 
-returns : tie.Need-returns
-returns c = let e = c.before.actor-room.ensures in (sym (opening_refused (T c.before.before.before.before.before.before.before.before) c.before.before.before.before.before.before.before.before.args.actors (omega arith)), refl)
+returns : tie.Need-returns-then-w-actors
+returns c = let e = c.actor_room-w.ensures in (sym (opening_refused (T c.before.before.before.before.before.before.before.before) c.args.actors (omega arith)), refl)
 
-returns_2 : tie.Need-returns-2
+returns_2 : tie.Need-returns
 returns_2 c = let s = c.before.before.before.before.before.before.before.before in (sym (opening_done (T s) s.args.actors (fits c)), ap (λ (us : List ℕ). tables s.args.hashes.now s.args.nodes.now s.args.targets.now s.args.nexts.now s.args.clocks.now us) (three s.args.counts.now s.args.actors s.requires.counts_three))
 
 pub open_empty_spec : {M : Type 1} → statement M

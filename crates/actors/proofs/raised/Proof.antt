@@ -6,11 +6,14 @@ use native.Mathlib.Numerals.{add-one}
 use Rattle.actors.proofs.raised.Statement.{statement}
 use Rattle.actors.proofs.raised.Tie as tie
 
-returns : tie.Need-returns
-returns c = rw (lt-ltb _ _ c.if1.true)
+returns : tie.Need-returns-then-a-p
+returns c = rw (lt-ltb _ _ c.if-a-p.true)
 
-returns_2 : tie.Need-returns-2
-returns_2 c = rw (le-ltb _ _ c.if1.false) (add-one _)
+returns_2 : tie.Need-returns-else-a-p
+returns_2 c = rw (le-ltb _ _ c.if-a-p.false) (add-one _)
 
 pub raised_spec : {M : Type 1} → statement M
-raised_spec = tie.close (tie.spec (λ c. search rules) returns returns_2)
+raised_spec = tie.close (tie.spec
+    (λ c. search rules)
+    returns
+    returns_2)

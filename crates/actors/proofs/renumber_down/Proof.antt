@@ -11,26 +11,26 @@ use Rattle.actors.specs.ActorLaws.{renumbered_read, renumbered_next, renumbered_
 use Rattle.actors.proofs.renumber_down.Statement.{statement}
 use Rattle.actors.proofs.renumber_down.Tie as tie
 
-abbrev invariant_loop : tie.invariant-loop
+abbrev invariant_loop : tie.invariant-loop-k
 invariant_loop nodes₀ n p k₀ nodes k = (k ≤ n) × (length nodes ≡ length nodes₀) × (nodes ≡ renumbered (lower p) k nodes₀)
 
-abbrev decreases_loop : tie.decreases-loop
+abbrev decreases_loop : tie.decreases-loop-k
 decreases_loop nodes₀ n p k₀ nodes k = n - k
 
-loop_holds : tie.Need-loop-init invariant_loop decreases_loop
-loop_holds c = (search rules, refl, sym (renumbered_none (lower c.before.args.p) c.before.args.nodes.now))
+loop_holds : tie.Need-loop-k-init invariant_loop decreases_loop
+loop_holds c = (search rules, refl, sym (renumbered_none (lower c.args.p) c.args.nodes.now))
 
-loop_again : tie.Need-loop-preserved invariant_loop decreases_loop
-loop_again c = let v = c.before.before.before.loop.invariant in
-    let s = c.before.before.before.before.before.args in
-    let e = ap (λ (l : List ℕ). get_or l (6 * c.before.before.before.loop.k) 0) v.2 ∙ renumbered_read (lower s.p) s.nodes.now c.before.before.before.loop.k in
-    (omega arith, simp length-set v.1, ap (λ (l : List ℕ). set l (6 * c.before.before.before.loop.k) c.lowered.result) v.2 ∙ renumbered_next (lower s.p) s.nodes.now c.before.before.before.loop.k c.lowered.result (c.lowered.ensures ∙ ap (lower s.p) e))
+loop_again : tie.Need-loop-k-preserved invariant_loop decreases_loop
+loop_again c = let v = c.loop-k.invariant in
+    let s = c.args in
+    let e = ap (λ (l : List ℕ). get_or l (6 * c.loop-k.k) 0) v.2 ∙ renumbered_read (lower s.p) s.nodes.now c.loop-k.k in
+    (omega arith, simp length-set v.1, ap (λ (l : List ℕ). set l (6 * c.loop-k.k) c.lowered.result) v.2 ∙ renumbered_next (lower s.p) s.nodes.now c.loop-k.k c.lowered.result (c.lowered.ensures ∙ ap (lower s.p) e))
 
-same_length : tie.Need-same-length invariant_loop decreases_loop
-same_length c = c.before.loop.invariant.1
+same_length : tie.Need-shape_of-nodes invariant_loop decreases_loop
+same_length c = c.loop-k.invariant.1
 
 returns : tie.Need-returns invariant_loop decreases_loop
-returns c = let v = c.before.loop.invariant in let e : c.before.loop.k ≡ c.before.before.before.args.n = omega arith in v.2 ∙ ap (λ (m : ℕ). renumbered (lower c.before.before.before.args.p) m c.before.before.before.args.nodes.now) e
+returns c = let v = c.loop-k.invariant in let e : c.loop-k.k ≡ c.args.n = omega arith in v.2 ∙ ap (λ (m : ℕ). renumbered (lower c.args.p) m c.args.nodes.now) e
 
 pub renumber_down_spec : {M : Type 1} → statement M
 renumber_down_spec =

@@ -6,7 +6,7 @@ use Rattle.actors.proofs.widen_row.Statement.{statement}
 use Rattle.actors.proofs.widen_row.Tie as tie
 
 returns : tie.Need-returns
-returns c = let s = c.before.before.before.before.before in widened _ _ _ s.requires.0 s.requires.1 c.before.before.rewrite-with-new-actor.ensures
+returns c = let s = c.before.before.before.before.before in widened _ _ _ s.requires.0 s.requires.1 c.rewrite_with_new_actor.ensures
 
 pub widen_row_spec : {M : Type 1} → statement M
 widen_row_spec =

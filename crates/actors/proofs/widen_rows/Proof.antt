@@ -9,36 +9,36 @@ use Rattle.actors.specs.ActorLaws.{Passing, row_room, passing_start, passing_nex
 use Rattle.actors.proofs.widen_rows.Statement.{statement}
 use Rattle.actors.proofs.widen_rows.Tie as tie
 
-abbrev invariant_loop : tie.invariant-loop
+abbrev invariant_loop : tie.invariant-loop-k
 invariant_loop clocks₀ n w p k₀ clocks k = Passing (widen p) w n clocks₀ k clocks
 
-abbrev decreases_loop : tie.decreases-loop
+abbrev decreases_loop : tie.decreases-loop-k
 decreases_loop clocks₀ n w p k₀ clocks k = n - k
 
 -- row k lies in the table
-room : (c : tie.In-loop invariant_loop decreases_loop) → c.before.loop.k * c.before.before.before.args.w + c.before.before.before.args.w ≤ length c.before.loop.clocks
+room : (c : tie.In-loop-k invariant_loop decreases_loop) → c.loop-k.k * c.args.w + c.args.w ≤ length c.loop-k.clocks
 room c =
-    let l = c.before.loop.invariant.long in
-    let r = row_room c.before.loop.k c.before.before.before.args.n c.before.before.before.args.w (length c.before.before.before.args.clocks.now) c.loop-test.true c.before.before.before.requires.0 in
+    let l = c.loop-k.invariant.long in
+    let r = row_room c.loop-k.k c.args.n c.args.w (length c.args.clocks.now) c.loop-k-test.true c.requires.0 in
     omega arith
 
-loop_holds : tie.Need-loop-init invariant_loop decreases_loop
+loop_holds : tie.Need-loop-k-init invariant_loop decreases_loop
 loop_holds c = passing_start _ _ _ _
 
-mul_widen_row : tie.Need-overflow-mul-widen-row invariant_loop decreases_loop
+mul_widen_row : tie.Need-overflow_mul-k invariant_loop decreases_loop
 mul_widen_row c = let r = room c.before in omega arith
 
-widen_row_requires : tie.Need-widen-row-requires invariant_loop decreases_loop
-widen_row_requires c κs = (room c.before, c.before.before.before.before.requires.1)
+widen_row_requires : tie.Need-widen_row-requires invariant_loop decreases_loop
+widen_row_requires c κs = (room c.before, c.requires.1)
 
-loop_again : tie.Need-loop-preserved invariant_loop decreases_loop
-loop_again c = passing_next _ _ _ _ c.before.before.before.before.before.loop.invariant c.before.before.before.before.loop-test.true c.before.before.widen-row.ensures
+loop_again : tie.Need-loop-k-preserved invariant_loop decreases_loop
+loop_again c = passing_next _ _ _ _ c.loop-k.invariant c.loop-k-test.true c.widen_row.ensures
 
-same_length : tie.Need-same-length invariant_loop decreases_loop
-same_length c = c.before.loop.invariant.long
+same_length : tie.Need-shape_of-clocks invariant_loop decreases_loop
+same_length c = c.loop-k.invariant.long
 
 returns : tie.Need-returns invariant_loop decreases_loop
-returns c = passing_end _ _ _ _ c.before.loop.invariant c.loop-test.false
+returns c = passing_end _ _ _ _ c.loop-k.invariant c.loop-k-test.false
 
 pub widen_rows_spec : {M : Type 1} → statement M
 widen_rows_spec =

@@ -18,32 +18,32 @@ T s = tables s.args.hashes.now s.args.nodes.now s.args.targets.now s.args.nexts.
 actor_in : (s : tie.Start) → actor_at (T s).nodes s.args.k < length s.args.clock.now
 actor_in s = check_actor (T s) _ _ _ _ s.requires
 
-cast_actor : tie.Need-overflow-cast-actor
-cast_actor c = omega (arith, c.shared-slice-known7.given (6 * c.before.before.before.before.before.before.before.before.before.before.before.before.before.args.k))
+cast_actor : tie.Need-overflow_cast-actor
+cast_actor c = omega (arith, c.shared_slice_known-7-1.given (6 * c.args.k))
 
-mul_clock_3 : tie.Need-overflow-mul-clock-3
-mul_clock_3 c = let h = actor_in c.before.before.before.before.before.before.before.before.before.before.before.before.before.before in omega (arith, c.before.before.before.before.clear.auto.0, c.before.before.before.before.before.before.before.before.before.before.before.before.before.before.well-formed.1.1.1.1.1.1.1.1.0.1)
+mul_clock_3 : tie.Need-offset_bounds-clock-actor
+mul_clock_3 c = let h = actor_in c.before.before.before.before.before.before.before.before.before.before.before.before.before.before in omega (arith, c.clear.auto.clock, c.well_formed.1.1.1.1.1.1.1.1.0.1)
 
-slice_write_clock : tie.Need-slice-write-clock
-slice_write_clock c = omega (arith, actor_in c.before.before.before.before.before.before.before.before.before.before.before.before.before.before, c.before.before.before.before.clear.auto.0)
+slice_write_clock : tie.Need-bounds-clock-actor
+slice_write_clock c = omega (arith, actor_in c.before.before.before.before.before.before.before.before.before.before.before.before.before.before, c.clear.auto.clock)
 
-cast_first : tie.Need-overflow-cast-first
-cast_first c = omega (arith, c.shared-slice-known9.given (6 * c.before.before.before.before.before.before.before.before.before.before.before.before.before.before.before.args.k + 4))
+cast_first : tie.Need-overflow_cast-first
+cast_first c = omega (arith, c.shared_slice_known-9-1.given (6 * c.args.k + 4))
 
-mark_links_requires : tie.Need-mark-links-requires
+mark_links_requires : tie.Need-mark_links-requires
 mark_links_requires c κs = let s = c.before.before.before.before.before.before.before.before.before.before.before.before.before.before.before.before in
     (chain_up s.requires.room (node_chain (T s) s.requires.walkable.sound s.args.k s.requires.known), s.requires.walkable.sound.lengths.nexts_same)
 
 walk_requires : tie.Need-walk-requires
 walk_requires c κs = let s = c.before.before.before.before.before.before.before.before.before.before.before.before.before.before.before.before.before.before.before.before.before in
-    (check_walkable (T s) _ _ _ _ s.requires _ (simp length-set c.before.before.before.before.before.before.before.before.before.before.before.clear.auto.0), omega (arith, s.requires.room, c.before.before.before.before.mark-links.ensures.long))
+    (check_walkable (T s) _ _ _ _ s.requires _ (simp length-set c.clear.auto.clock), omega (arith, s.requires.room, c.mark_links.ensures.long))
 
-same_length : tie.Need-same-length
-same_length c = c.before.before.before.before.walk.ensures.long ∙ simp length-set c.before.before.before.before.before.before.before.before.before.before.before.before.before.before.before.before.clear.auto.0
+same_length : tie.Need-shape_of-clock
+same_length c = c.walk.ensures.long ∙ simp length-set c.clear.auto.clock
 
 returns : tie.Need-returns
 returns c = let s = c.before.before.before.before.before.before.before.before.before.before.before.before.before.before.before.before.before.before.before.before.before.before.before.before.before.before in
-    node_clocked (T s) _ _ _ _ s.requires _ _ _ _ c.before.before.before.before.before.before.before.before.before.before.before.before.before.before.before.before.clear.ensures c.before.before.before.before.before.before.before.before.before.mark-links.ensures c.before.before.before.before.walk.ensures
+    node_clocked (T s) _ _ _ _ s.requires _ _ _ _ c.clear.ensures c.mark_links.ensures c.walk.ensures
 
 pub node_clock_spec : {M : Type 1} → statement M
 node_clock_spec =

@@ -18,35 +18,35 @@ T s = tables s.args.hashes.now s.args.nodes.now s.args.targets.now s.args.nexts.
 row_in : (s : tie.Start) → s.args.k * s.args.width + length s.args.clock.now ≤ length s.args.clocks.now
 row_in s = check_row (T s) _ _ _ _ s.requires
 
-is_cached_requires : tie.Need-is-cached-requires
-is_cached_requires c κs = check_own (T c.before.before.before.before.before.before.before.before) _ _ _ _ c.before.before.before.before.before.before.before.before.requires
+is_cached_requires : tie.Need-is_cached-requires
+is_cached_requires c κs = check_own (T c.before.before.before.before.before.before.before.before) _ _ _ _ c.requires
 
-node_clock_requires : tie.Need-node-clock-requires
-node_clock_requires c κs = c.before.before.before.before.before.before.before.before.before.before.before.before.requires
+node_clock_requires : tie.Need-node_clock-requires
+node_clock_requires c κs = c.requires
 
-mul_row_is : tie.Need-overflow-mul-row-is
-mul_row_is c = omega (arith, row_in c.before.before.before.before.before.before.before.before.before.before.before.before.before.before.before.before.before.before)
+mul_row_is : tie.Need-overflow_mul-k
+mul_row_is c = omega (arith, row_in c.before.before.before.before.before.before.before.before.before.before.before.before.before.before.before.before.before)
 
-row_is_requires : tie.Need-row-is-requires
-row_is_requires c κs = omega (arith, row_in c.before.before.before.before.before.before.before.before.before.before.before.before.before.before.before.before.before.before, ap length c.before.before.before.before.before.node-clock.ensures.clock_is ∙ length_each _ _)
+row_is_requires : tie.Need-row_is-requires
+row_is_requires c κs = omega (arith, row_in c.before.before.before.before.before.before.before.before.before.before.before.before.before.before.before.before.before, ap length c.node_clock.ensures.clock_is ∙ length_each _ _)
 
-returns : tie.Need-returns
-returns c = let s = c.before.before.before.before.before.before.before.before.before.before.before.before.before.before.before.before.before.before.before in
+returns : tie.Need-returns-then-is_cached
+returns c = let s = c.before.before.before.before.before.before.before.before.before.before.before.before.before.before.before.before.before.before in
     record {
-      answer = right_cached (T s) _ _ _ _ s.requires _ _ s.requires.full (sym c.before.before.before.before.before.before.before.before.before.before.is-cached.ensures ∙ c.before.before.before.before.before.before.before.before.before.if1.true) c.before.before.before.before.before.before.node-clock.ensures.clock_is c.row-is.ensures;
-      marks_back = c.before.before.before.before.before.before.node-clock.ensures.marks_back;
+      answer = right_cached (T s) _ _ _ _ s.requires _ _ s.requires.full (sym c.is_cached.ensures ∙ c.if-is_cached.true) c.node_clock.ensures.clock_is c.row_is.ensures;
+      marks_back = c.node_clock.ensures.marks_back;
     }
 
-mul_row_is_2 : tie.Need-overflow-mul-row-is-2
-mul_row_is_2 c = omega (arith, row_in c.before.before.before.before.before.before.before.before.before.before.before.before.before.before.before)
+mul_row_is_2 : tie.Need-overflow_mul-k-2
+mul_row_is_2 c = omega (arith, row_in c.before.before.before.before.before.before.before.before.before.before.before.before.before.before)
 
-row_is_requires_2 : tie.Need-row-is-requires-2
-row_is_requires_2 c κs = omega (arith, row_in c.before.before.before.before.before.before.before.before.before.before.before.before.before.before.before, c.before.before.before.clear.auto.0)
+row_is_requires_2 : tie.Need-row_is-requires-2
+row_is_requires_2 c κs = omega (arith, row_in c.before.before.before.before.before.before.before.before.before.before.before.before.before.before, c.clear.auto.clock)
 
-returns_2 : tie.Need-returns-2
-returns_2 c = let s = c.before.before.before.before.before.before.before.before.before.before.before.before.before.before.before.before in
+returns_2 : tie.Need-returns
+returns_2 c = let s = c.before.before.before.before.before.before.before.before.before.before.before.before.before.before.before in
     record {
-      answer = right_bare (T s) _ _ _ _ s.requires _ _ s.requires.full (sym c.before.before.before.before.before.before.before.is-cached.ensures ∙ c.before.before.before.before.before.before.if1.false) c.before.before.before.before.clear.ensures c.row-is2.ensures;
+      answer = right_bare (T s) _ _ _ _ s.requires _ _ s.requires.full (sym c.is_cached.ensures ∙ c.if-is_cached.false) c.clear.ensures c.row_is-2.ensures;
       marks_back = refl;
     }
 

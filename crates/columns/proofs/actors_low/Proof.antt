@@ -7,23 +7,23 @@ use borrow.Author.Rules.{rules}
 use Rattle.columns.proofs.actors_low.Statement.{statement}
 use Rattle.columns.proofs.actors_low.Tie as tie
 
-abbrev invariant_loop : tie.invariant-loop
+abbrev invariant_loop : tie.invariant-loop-k
 invariant_loop actors n count k₀ k = Passed (actor_is_low actors count) n k
 
-abbrev decreases_loop : tie.decreases-loop
+abbrev decreases_loop : tie.decreases-loop-k
 decreases_loop actors n count k₀ k = n - k
 
-loop_holds : tie.Need-loop-init invariant_loop decreases_loop
+loop_holds : tie.Need-loop-k-init invariant_loop decreases_loop
 loop_holds c = all_start _ _
 
-returns : tie.Need-returns invariant_loop decreases_loop
-returns c = all_no _ _ _ c.before.before.loop-test.true (le-ltb _ _ c.if1.true)
+returns : tie.Need-returns-then-count-actors invariant_loop decreases_loop
+returns c = all_no _ _ _ c.loop-k-test.true (le-ltb _ _ c.if-count-actors.true)
 
-loop_again : tie.Need-loop-preserved invariant_loop decreases_loop
-loop_again c = all_next _ _ c.before.before.before.loop.invariant c.before.before.loop-test.true (lt-ltb _ _ c.if1.false)
+loop_again : tie.Need-loop-k-preserved invariant_loop decreases_loop
+loop_again c = all_next _ _ c.loop-k.invariant c.loop-k-test.true (lt-ltb _ _ c.if-count-actors.false)
 
-returns_2 : tie.Need-returns-2 invariant_loop decreases_loop
-returns_2 c = all_end _ _ c.before.loop.invariant c.loop-test.false
+returns_2 : tie.Need-returns invariant_loop decreases_loop
+returns_2 c = all_end _ _ c.loop-k.invariant c.loop-k-test.false
 
 pub actors_low_spec : {M : Type 1} → statement M
 actors_low_spec =

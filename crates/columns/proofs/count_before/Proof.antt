@@ -6,20 +6,20 @@ use borrow.Author.Rules.{rules}
 use Rattle.columns.proofs.count_before.Statement.{statement}
 use Rattle.columns.proofs.count_before.Tie as tie
 
-abbrev invariant_loop : tie.invariant-loop
+abbrev invariant_loop : tie.invariant-loop-j
 invariant_loop actors k actor c₀ j₀ c j = Counted actors actor k c j
 
-abbrev decreases_loop : tie.decreases-loop
+abbrev decreases_loop : tie.decreases-loop-j
 decreases_loop actors k actor c₀ j₀ c j = k - j
 
-loop_holds : tie.Need-loop-init invariant_loop decreases_loop
+loop_holds : tie.Need-loop-j-init invariant_loop decreases_loop
 loop_holds c = counted_start _ _ _
 
-loop_again : tie.Need-loop-preserved invariant_loop decreases_loop
-loop_again c = ⊎_elim (λ w. counted_yes c.before.before.before.loop.invariant c.before.before.loop-test.true w.0.taken w.1) (λ w. counted_no c.before.before.before.loop.invariant c.before.before.loop-test.true w.0.left w.1) c.if1.branch
+loop_again : tie.Need-loop-j-preserved invariant_loop decreases_loop
+loop_again c = ⊎_elim (λ w. counted_yes c.loop-j.invariant c.loop-j-test.true w.if-actors-j.true w.c-is) (λ w. counted_no c.loop-j.invariant c.loop-j-test.true w.if-actors-j.false w.c-is) c.if-actors-j.branch-raw
 
 returns : tie.Need-returns invariant_loop decreases_loop
-returns c = counted_end c.before.loop.invariant c.loop-test.false
+returns c = counted_end c.loop-j.invariant c.loop-j-test.false
 
 pub count_before_spec : {M : Type 1} → statement M
 count_before_spec =

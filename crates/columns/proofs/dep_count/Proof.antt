@@ -7,23 +7,23 @@ use native.Mathlib.Omega.{arith}
 use Rattle.columns.proofs.dep_count.Statement.{statement}
 use Rattle.columns.proofs.dep_count.Tie as tie
 
-abbrev invariant_loop : tie.invariant-loop
+abbrev invariant_loop : tie.invariant-loop-k
 invariant_loop deps n values at₀ k₀ at k = Summed deps n at k
 
-abbrev decreases_loop : tie.decreases-loop
+abbrev decreases_loop : tie.decreases-loop-k
 decreases_loop deps n values at₀ k₀ at k = n - k
 
-loop_holds : tie.Need-loop-init invariant_loop decreases_loop
+loop_holds : tie.Need-loop-k-init invariant_loop decreases_loop
 loop_holds c = summed_start _ _
 
-add_at : tie.Need-overflow-add-at invariant_loop decreases_loop
-add_at c = omega (arith, summed_fits _ _ c.before.before.loop.invariant c.before.loop-test.true)
+add_at : tie.Need-overflow_add-at invariant_loop decreases_loop
+add_at c = omega (arith, summed_fits _ _ c.loop-k.invariant c.loop-k-test.true)
 
-loop_again : tie.Need-loop-preserved invariant_loop decreases_loop
-loop_again c = summed_next _ _ c.before.before.loop.invariant c.before.loop-test.true
+loop_again : tie.Need-loop-k-preserved invariant_loop decreases_loop
+loop_again c = summed_next _ _ c.loop-k.invariant c.loop-k-test.true
 
 returns : tie.Need-returns invariant_loop decreases_loop
-returns c = summed_end _ _ c.before.loop.invariant c.loop-test.false
+returns c = summed_end _ _ c.loop-k.invariant c.loop-k-test.false
 
 pub dep_count_spec : {M : Type 1} → statement M
 dep_count_spec =

@@ -6,26 +6,26 @@ use borrow.Author.Rules.{rules}
 use Rattle.columns.proofs.deps_enough.Statement.{statement}
 use Rattle.columns.proofs.deps_enough.Tie as tie
 
-abbrev invariant_loop : tie.invariant-loop
+abbrev invariant_loop : tie.invariant-loop-k
 invariant_loop deps n values at₀ k₀ at k = Enough deps n values at k
 
-abbrev decreases_loop : tie.decreases-loop
+abbrev decreases_loop : tie.decreases-loop-k
 decreases_loop deps n values at₀ k₀ at k = n - k
 
-loop_holds : tie.Need-loop-init invariant_loop decreases_loop
+loop_holds : tie.Need-loop-k-init invariant_loop decreases_loop
 loop_holds c = enough_start _ _ _
 
-returns : tie.Need-returns invariant_loop decreases_loop
-returns c = enough_many _ _ _ c.before.before.before.loop.invariant c.before.before.loop-test.true c.if1.true
+returns : tie.Need-returns-then-d-gt32 invariant_loop decreases_loop
+returns c = enough_many _ _ _ c.loop-k.invariant c.loop-k-test.true c.if-d-gt32.true
 
-returns_2 : tie.Need-returns-2 invariant_loop decreases_loop
-returns_2 c = enough_short _ _ _ c.before.before.before.before.loop.invariant c.before.before.before.loop-test.true c.if2.true
+returns_2 : tie.Need-returns-then-values-at invariant_loop decreases_loop
+returns_2 c = enough_short _ _ _ c.loop-k.invariant c.loop-k-test.true c.if-values-at.true
 
-loop_again : tie.Need-loop-preserved invariant_loop decreases_loop
-loop_again c = enough_next _ _ _ c.before.before.before.before.loop.invariant c.before.before.before.loop-test.true c.before.if1.false c.if2.false
+loop_again : tie.Need-loop-k-preserved invariant_loop decreases_loop
+loop_again c = enough_next _ _ _ c.loop-k.invariant c.loop-k-test.true c.if-d-gt32.false c.if-values-at.false
 
-returns_3 : tie.Need-returns-3 invariant_loop decreases_loop
-returns_3 c = enough_end _ _ _ c.before.loop.invariant c.loop-test.false
+returns_3 : tie.Need-returns invariant_loop decreases_loop
+returns_3 c = enough_end _ _ _ c.loop-k.invariant c.loop-k-test.false
 
 pub deps_enough_spec : {M : Type 1} → statement M
 deps_enough_spec =

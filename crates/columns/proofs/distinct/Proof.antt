@@ -9,27 +9,27 @@ use borrow.Author.Rules.{rules}
 use Rattle.columns.proofs.distinct.Statement.{statement}
 use Rattle.columns.proofs.distinct.Tie as tie
 
-abbrev invariant_loop : tie.invariant-loop
+abbrev invariant_loop : tie.invariant-loop-k
 invariant_loop hashes n k₀ k = Passed (is_new hashes) n k
 
-abbrev decreases_loop : tie.decreases-loop
+abbrev decreases_loop : tie.decreases-loop-k
 decreases_loop hashes n k₀ k = n - k
 
 -- the call looks for hash k among those before it
-told : (c : tie.After-known invariant_loop decreases_loop) → is_new c.before.before.before.before.before.args.hashes.now c.before.before.before.loop.k ≡ not c.known.result
-told c = ap not (sym (c.known.ensures ∙ ap (is_known c.before.before.before.before.before.args.hashes.now c.before.before.before.loop.k) (hash_part c.before.before.before.before.before.args.hashes.now c.before.before.before.loop.k)))
+told : (c : tie.After-known invariant_loop decreases_loop) → is_new c.args.hashes.now c.loop-k.k ≡ not c.known.result
+told c = ap not (sym (c.known.ensures ∙ ap (is_known c.args.hashes.now c.loop-k.k) (hash_part c.args.hashes.now c.loop-k.k)))
 
-loop_holds : tie.Need-loop-init invariant_loop decreases_loop
+loop_holds : tie.Need-loop-k-init invariant_loop decreases_loop
 loop_holds c = all_start _ _
 
-returns : tie.Need-returns invariant_loop decreases_loop
-returns c = all_no _ _ _ c.before.before.before.loop-test.true (told c.before ∙ ap not c.if1.true)
+returns : tie.Need-returns-then-known invariant_loop decreases_loop
+returns c = all_no _ _ _ c.loop-k-test.true (told c.before ∙ ap not c.if-known.true)
 
-loop_again : tie.Need-loop-preserved invariant_loop decreases_loop
-loop_again c = all_next _ _ c.before.before.before.before.loop.invariant c.before.before.before.loop-test.true (told c.before ∙ ap not c.if1.false)
+loop_again : tie.Need-loop-k-preserved invariant_loop decreases_loop
+loop_again c = all_next _ _ c.loop-k.invariant c.loop-k-test.true (told c.before ∙ ap not c.if-known.false)
 
-returns_2 : tie.Need-returns-2 invariant_loop decreases_loop
-returns_2 c = all_end _ _ c.before.loop.invariant c.loop-test.false
+returns_2 : tie.Need-returns invariant_loop decreases_loop
+returns_2 c = all_end _ _ c.loop-k.invariant c.loop-k-test.false
 
 pub distinct_spec : {M : Type 1} → statement M
 distinct_spec =

@@ -1,29 +1,29 @@
 -- A head has the hash. The invariant: none so far; the measure is what is left of n. Assumes nothing.
 use Prim.Native.Nat.{◌-◌}
-use mathlib.Core.Path.{sym, ap, ◌∙◌}
+use mathlib.Core.Path.{sym, ◌∙◌}
 use Rattle.paper.proofs.Scans.{Missed, some_start, some_next, some_end, some_yes}
 use Rattle.columns.specs.Columns.{column_head_is}
 use borrow.Author.Rules.{rules}
 use Rattle.columns.proofs.is_head.Statement.{statement}
 use Rattle.columns.proofs.is_head.Tie as tie
 
-abbrev invariant_loop : tie.invariant-loop
+abbrev invariant_loop : tie.invariant-loop-k
 invariant_loop hashes n values hash k₀ k = Missed (column_head_is hashes values hash) n k
 
-abbrev decreases_loop : tie.decreases-loop
+abbrev decreases_loop : tie.decreases-loop-k
 decreases_loop hashes n values hash k₀ k = n - k
 
-loop_holds : tie.Need-loop-init invariant_loop decreases_loop
+loop_holds : tie.Need-loop-k-init invariant_loop decreases_loop
 loop_holds c = some_start _ _
 
-returns : tie.Need-returns invariant_loop decreases_loop
-returns c = some_yes _ _ _ c.before.before.loop-test.true (sym c.before.head-is.ensures ∙ c.if1.true)
+returns : tie.Need-returns-then-head_is invariant_loop decreases_loop
+returns c = some_yes _ _ _ c.loop-k-test.true (sym c.head_is.ensures ∙ c.if-head_is.true)
 
-loop_again : tie.Need-loop-preserved invariant_loop decreases_loop
-loop_again c = some_next _ _ c.before.before.before.loop.invariant c.before.before.loop-test.true (sym c.before.head-is.ensures ∙ c.if1.false)
+loop_again : tie.Need-loop-k-preserved invariant_loop decreases_loop
+loop_again c = some_next _ _ c.loop-k.invariant c.loop-k-test.true (sym c.head_is.ensures ∙ c.if-head_is.false)
 
-returns_2 : tie.Need-returns-2 invariant_loop decreases_loop
-returns_2 c = some_end _ _ c.before.loop.invariant c.loop-test.false
+returns_2 : tie.Need-returns invariant_loop decreases_loop
+returns_2 c = some_end _ _ c.loop-k.invariant c.loop-k-test.false
 
 pub is_head_spec : {M : Type 1} → statement M
 is_head_spec =

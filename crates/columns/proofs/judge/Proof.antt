@@ -1,7 +1,6 @@
 -- One law for each answer, with the tests passed before it. Assumes nothing.
-use mathlib.Core.Path.{◌≡◌, sym, ap, ◌∙◌}
+use mathlib.Core.Path.{◌≡◌, sym, ◌∙◌}
 use mathlib.Core.Bool.{true}
-use borrow.Author.Tests.{not-true, not-false}
 use Rattle.paper.specs.Loading.{Columns, deps_before, agree}
 use Rattle.paper.proofs.Loading.{agreed}
 use Rattle.columns.specs.Columns.{columns}
@@ -16,35 +15,35 @@ abbrev C : tie.Start → Columns
 C s = columns s.args.hashes.now s.args.actors.now s.args.seqs.now s.args.maxes.now s.args.ops.now s.args.deps.now s.args.values.now s.args.heads.now s.args.count
 
 -- they agree
-told : (c : tie.Else4) → agree (C c.before.before.before.before.before.before.before.before.before.before.before.before.before) ≡ true
-told c = sym c.before.agree.ensures ∙ not-false _ c.if4.false
+told : (c : tie.Else-not-agree) → agree (C c.before.before.before.before.before.before.before.before.before.before.before.before.before) ≡ true
+told c = sym c.agree.ensures ∙ c.if-not-agree.false
 
-returns : tie.Need-returns
-returns c = bad_hashes _ _ _ (C c.before.before.before.before.before.before.before.before.before) c.if1.true
+returns : tie.Need-returns-then-hashes-ne0
+returns c = bad_hashes _ _ _ (C c.before.before.before.before.before.before.before.before.before) c.if-hashes-ne0.true
 
-returns_2 : tie.Need-returns-2
-returns_2 c = bad_heads _ _ _ (C c.before.before.before.before.before.before.before.before.before.before) c.before.if1.false c.if2.true
+returns_2 : tie.Need-returns-then-heads-ne0
+returns_2 c = bad_heads _ _ _ (C c.before.before.before.before.before.before.before.before.before.before) c.if-hashes-ne0.false c.if-heads-ne0.true
 
-returns_3 : tie.Need-returns-3
-returns_3 c = no_actors _ _ _ (C c.before.before.before.before.before.before.before.before.before.before.before) c.before.before.if1.false c.before.if2.false c.if3.true
+returns_3 : tie.Need-returns-then-rows-count
+returns_3 c = no_actors _ _ _ (C c.before.before.before.before.before.before.before.before.before.before.before) c.if-hashes-ne0.false c.if-heads-ne0.false c.if-rows-count.true
 
-returns_4 : tie.Need-returns-4
-returns_4 c = disagreed _ _ _ (C c.before.before.before.before.before.before.before.before.before.before.before.before.before) c.before.before.before.before.if1.false c.before.before.before.if2.false c.before.before.if3.false (sym c.before.agree.ensures ∙ not-true _ c.if4.true)
+returns_4 : tie.Need-returns-then-not-agree
+returns_4 c = disagreed _ _ _ (C c.before.before.before.before.before.before.before.before.before.before.before.before.before) c.if-hashes-ne0.false c.if-heads-ne0.false c.if-rows-count.false (sym c.agree.ensures ∙ c.if-not-agree.true)
 
-returns_5 : tie.Need-returns-5
-returns_5 c = no_nodes _ _ _ (C c.before.before.before.before.before.before.before.before.before.before.before.before.before.before) c.before.before.before.before.before.if1.false c.before.before.before.before.if2.false c.before.before.before.if3.false (told c.before) c.if5.true
+returns_5 : tie.Need-returns-then-nodes-n
+returns_5 c = no_nodes _ _ _ (C c.before.before.before.before.before.before.before.before.before.before.before.before.before.before) c.if-hashes-ne0.false c.if-heads-ne0.false c.if-rows-count.false (told c.before) c.if-nodes-n.true
 
-dep_count_requires : tie.Need-dep-count-requires
+dep_count_requires : tie.Need-dep_count-e-requires
 unfolding deps_before
 dep_count_requires c κs = let a = agreed (C c.before.before.before.before.before.before.before.before.before.before.before.before.before.before) (told c.before) in let l = a.dep_counts_long in (omega arith, a.enough)
 
-returns_6 : tie.Need-returns-6
+returns_6 : tie.Need-returns-then-edges-e
 unfolding deps_before
-returns_6 c = no_edges _ _ _ (C c.before.before.before.before.before.before.before.before.before.before.before.before.before.before.before.before) c.before.before.before.before.before.before.before.if1.false c.before.before.before.before.before.before.if2.false c.before.before.before.before.before.if3.false (told c.before.before.before) c.before.before.if5.false (let q = c.before.dep-count.ensures in omega (arith, c.if6.true))
+returns_6 c = no_edges _ _ _ (C c.before.before.before.before.before.before.before.before.before.before.before.before.before.before.before.before) c.if-hashes-ne0.false c.if-heads-ne0.false c.if-rows-count.false (told c.before.before.before) c.if-nodes-n.false (let q = c.dep_count-e.ensures in omega (arith, c.if-edges-e.true))
 
-returns_7 : tie.Need-returns-7
+returns_7 : tie.Need-returns
 unfolding deps_before
-returns_7 c = all_done _ _ _ (C c.before.before.before.before.before.before.before.before.before.before.before.before.before.before.before.before) c.before.before.before.before.before.before.before.if1.false c.before.before.before.before.before.before.if2.false c.before.before.before.before.before.if3.false (told c.before.before.before) c.before.before.if5.false (let q = c.before.dep-count.ensures in omega (arith, c.if6.false))
+returns_7 c = all_done _ _ _ (C c.before.before.before.before.before.before.before.before.before.before.before.before.before.before.before.before) c.if-hashes-ne0.false c.if-heads-ne0.false c.if-rows-count.false (told c.before.before.before) c.if-nodes-n.false (let q = c.dep_count-e.ensures in omega (arith, c.if-edges-e.false))
 
 pub judge_spec : {M : Type 1} → statement M
 judge_spec =

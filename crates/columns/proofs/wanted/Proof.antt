@@ -9,23 +9,23 @@ use borrow.Author.Rules.{rules}
 use Rattle.columns.proofs.wanted.Statement.{statement}
 use Rattle.columns.proofs.wanted.Tie as tie
 
-abbrev invariant_loop : tie.invariant-loop
+abbrev invariant_loop : tie.invariant-loop-i
 invariant_loop values k i₀ i = Missed (λ j. eqb (get_or values j 0) k) (length values) i
 
-abbrev decreases_loop : tie.decreases-loop
+abbrev decreases_loop : tie.decreases-loop-i
 decreases_loop values k i₀ i = length values - i
 
-loop_holds : tie.Need-loop-init invariant_loop decreases_loop
+loop_holds : tie.Need-loop-i-init invariant_loop decreases_loop
 loop_holds c = some_start _ _
 
-returns : tie.Need-returns invariant_loop decreases_loop
-returns c = some_yes _ _ _ c.before.before.loop-test.true (eq-eqb _ _ c.if1.true) ∙ mem_places _ _
+returns : tie.Need-returns-then-values-i invariant_loop decreases_loop
+returns c = some_yes _ _ _ c.loop-i-test.true (eq-eqb _ _ c.if-values-i.true) ∙ mem_places _ _
 
-loop_again : tie.Need-loop-preserved invariant_loop decreases_loop
-loop_again c = some_next _ _ c.before.before.before.loop.invariant c.before.before.loop-test.true (ne_eqb _ _ c.if1.false)
+loop_again : tie.Need-loop-i-preserved invariant_loop decreases_loop
+loop_again c = some_next _ _ c.loop-i.invariant c.loop-i-test.true (ne_eqb _ _ c.if-values-i.false)
 
-returns_2 : tie.Need-returns-2 invariant_loop decreases_loop
-returns_2 c = some_end _ _ c.before.loop.invariant c.loop-test.false ∙ mem_places _ _
+returns_2 : tie.Need-returns invariant_loop decreases_loop
+returns_2 c = some_end _ _ c.loop-i.invariant c.loop-i-test.false ∙ mem_places _ _
 
 pub wanted_spec : {M : Type 1} → statement M
 wanted_spec =

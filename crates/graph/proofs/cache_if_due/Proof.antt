@@ -11,14 +11,19 @@ use Rattle.graph.proofs.cache_if_due.Tie as tie
 abbrev T : tie.Start → Tables
 T s = tables s.args.hashes.now s.args.nodes.now s.args.targets.now s.args.nexts.now s.args.clocks.now s.args.counts.now
 
-returns : tie.Need-returns
-returns c = sym (due_not (T c.before.before.before.before.before.before.before) c.before.before.before.before.before.before.before.args.k c.if1.true)
+returns : tie.Need-returns-then-k-ne0
+returns c = sym (due_not (T c.before.before.before.before.before.before.before) c.args.k c.if-k-ne0.true)
 
-cache_clock_requires : tie.Need-cache-clock-requires
-cache_clock_requires c κs = c.before.before.before.before.before.before.before.before.requires
+cache_clock_requires : tie.Need-cache_clock-requires
+cache_clock_requires c κs = c.requires
 
-returns_2 : tie.Need-returns-2
-returns_2 c = c.before.before.cache-clock.ensures ∙ sym (due_now (T c.before.before.before.before.before.before.before.before.before.before.before) c.before.before.before.before.before.before.before.before.before.before.before.args.k c.before.before.before.before.if1.false)
+returns_2 : tie.Need-returns
+returns_2 c = c.cache_clock.ensures ∙ sym (due_now (T c.before.before.before.before.before.before.before.before.before.before.before) c.args.k c.if-k-ne0.false)
 
 pub cache_if_due_spec : {M : Type 1} → statement M
-cache_if_due_spec = tie.close (tie.spec (λ c. search rules) returns cache_clock_requires (λ c. search rules) returns_2)
+cache_if_due_spec = tie.close (tie.spec
+    (λ c. search rules)
+    returns
+    cache_clock_requires
+    (λ c. search rules)
+    returns_2)

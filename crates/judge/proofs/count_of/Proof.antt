@@ -14,37 +14,37 @@ use native.Mathlib.Omega.{arith}
 use Rattle.judge.proofs.count_of.Statement.{statement}
 use Rattle.judge.proofs.count_of.Tie as tie
 
-abbrev invariant_loop : tie.invariant-loop
+abbrev invariant_loop : tie.invariant-loop-k
 invariant_loop nodes n actor c₀ k₀ c k = (k ≤ n) × (c ≡ count_of nodes actor k)
 
-abbrev decreases_loop : tie.decreases-loop
+abbrev decreases_loop : tie.decreases-loop-k
 decreases_loop nodes n actor c₀ k₀ c k = n - k
 
-loop_holds : tie.Need-loop-init invariant_loop decreases_loop
+loop_holds : tie.Need-loop-k-init invariant_loop decreases_loop
 unfolding tally
 loop_holds c = (search rules, refl)
 
-cast_if1 : tie.Need-overflow-cast-if1 invariant_loop decreases_loop
-cast_if1 c = omega (arith, c.shared-slice-known.given (6 * c.before.before.loop.k))
+cast_if1 : tie.Need-overflow_cast-nodes invariant_loop decreases_loop
+cast_if1 c = omega (arith, c.shared_slice_known-1.given (6 * c.loop-k.k))
 
-add_c : tie.Need-overflow-add-c invariant_loop decreases_loop
-add_c c = omega (arith, tally_bound (λ j. eqb (actor_at c.before.before.before.before.args.nodes.now j) c.before.before.before.before.args.actor) c.before.before.before.loop.k)
+add_c : tie.Need-overflow_add-c invariant_loop decreases_loop
+add_c c = omega (arith, tally_bound (λ j. eqb (actor_at c.args.nodes.now j) c.args.actor) c.loop-k.k)
 
-loop_again : tie.Need-loop-preserved invariant_loop decreases_loop
+loop_again : tie.Need-loop-k-preserved invariant_loop decreases_loop
 loop_again c = let s = c.before.before.before.before in
-    let l = c.before.before.before.loop in
+    let l = c.loop-k in
     let up = tally_step (λ j. eqb (actor_at s.args.nodes.now j) s.args.actor) l.k in
     let count = l.invariant.1 in (
       omega arith,
       ⊎_elim
-          (λ w. let q = ap (λ (b : Bool). count_of s.args.nodes.now s.args.actor l.k + cond b 1 0) (eq-eqb _ _ w.0.taken) in let z = w.1 in omega arith)
-          (λ w. let q = ap (λ (b : Bool). count_of s.args.nodes.now s.args.actor l.k + cond b 1 0) (ne_eqb _ _ w.0.left) in let z = w.1 in omega arith)
-          c.if1.branch,
+          (λ w. let q = ap (λ (b : Bool). count_of s.args.nodes.now s.args.actor l.k + cond b 1 0) (eq-eqb _ _ w.if-nodes-k.true) in let z = w.c-is in omega arith)
+          (λ w. let q = ap (λ (b : Bool). count_of s.args.nodes.now s.args.actor l.k + cond b 1 0) (ne_eqb _ _ w.if-nodes-k.false) in let z = w.c-is in omega arith)
+          c.if-nodes-k.branch-raw,
     )
 
 returns : tie.Need-returns invariant_loop decreases_loop
-returns c = let e : c.before.loop.k ≡ c.before.before.args.n = omega arith in
-    rw (← e) c.before.loop.invariant.1
+returns c = let e : c.loop-k.k ≡ c.args.n = omega arith in
+    rw (← e) c.loop-k.invariant.1
 
 pub count_of_spec : {M : Type 1} → statement M
 count_of_spec =

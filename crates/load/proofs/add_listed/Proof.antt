@@ -17,11 +17,11 @@ abbrev T : tie.Start → Tables
 T s = tables s.args.hashes.now s.args.nodes.now s.args.targets.now s.args.nexts.now s.args.clocks.now s.args.counts.now
 
 returns : tie.Need-returns
-returns c = let s = c.before.before.before.before.before.before.before.before.before.before.before.before.before.before.before.before.before.before.before.before.before.before.before.before.before.before.before.before.before.before.before.before.before in
-    c.before.before.before.before.before.before.before.before.before.before.before.before.add.ensures.1
+returns c = let s = c.before.before.before.before.before.before.before.before.before.before.before.before.before.before.before.before.before.before.before.before.before.before.before.before.before.before.before.before.before.before.before.before in
+    c.add.ensures.1
     ∙ ap₂ (λ (h ds : List ℕ). added_tables (T s) (change h s.args.actor s.args.seq s.args.max s.args.ops ds))
     (hash_part s.args.ids.now s.args.k)
-    (ap (λ (x : List ℕ). take (32 * length s.args.deps.now - 0) (drop 0 x)) c.before.before.before.before.before.before.before.before.before.before.before.before.before.before.before.before.before.before.before.before.before.before.before.put-hashes.ensures ∙ put_part s.args.ids.now s.args.deps.now (drop (32 * length s.args.deps.now) (replicate 1024 0)) s.requires.1.2)
+    (ap (λ (x : List ℕ). take (32 * length s.args.deps.now - 0) (drop 0 x)) c.put_hashes.ensures ∙ put_part s.args.ids.now s.args.deps.now (drop (32 * length s.args.deps.now) (replicate 1024 0)) s.requires.1.2)
 
 pub add_listed_spec : {M : Type 1} → statement M
 add_listed_spec =

@@ -11,29 +11,29 @@ use borrow.Author.Rules.{rules}
 use Rattle.tables.proofs.distinct.Statement.{statement}
 use Rattle.tables.proofs.distinct.Tie as tie
 
-abbrev invariant_loop : tie.invariant-loop
+abbrev invariant_loop : tie.invariant-loop-j
 invariant_loop hashes n j₀ j = (j ≤ n) × Below (Fresh hashes) j
 
-abbrev decreases_loop : tie.decreases-loop
+abbrev decreases_loop : tie.decreases-loop-j
 decreases_loop hashes n j₀ j = n - j
 
 -- the call looks for hash j among those before it
-told : (c : tie.After-find invariant_loop decreases_loop) → c.find.result ≡ find_hash c.before.before.before.before.before.args.hashes.now c.before.before.before.loop.j (hash_at c.before.before.before.before.before.args.hashes.now c.before.before.before.loop.j)
+told : (c : tie.After-find invariant_loop decreases_loop) → c.find.result ≡ find_hash c.args.hashes.now c.loop-j.j (hash_at c.args.hashes.now c.loop-j.j)
 told c = rw hash_part at c.find.ensures
 
-loop_holds : tie.Need-loop-init invariant_loop decreases_loop
+loop_holds : tie.Need-loop-j-init invariant_loop decreases_loop
 loop_holds c = (search rules, below_start _)
 
-returns : tie.Need-returns invariant_loop decreases_loop
+returns : tie.Need-returns-in_default invariant_loop decreases_loop
 unfolding HashesDistinct
-returns c = below_no (Fresh c.before.before.before.before.before.before.before.args.hashes.now) _ _ c.before.before.before.before.loop-test.true (stale _ _ _ (sym (told c.before.before) ∙ c.enum-told2.given.1))
+returns c = below_no (Fresh c.args.hashes.now) _ _ c.loop-j-test.true (stale _ _ _ (sym (told c.before) ∙ c.in_default.is))
 
-loop_again : tie.Need-loop-preserved invariant_loop decreases_loop
-loop_again c = (search rules, below_next c.before.before.before.before.before.loop.invariant.1 (fresh _ _ (sym (told c.before.before) ∙ c.enum_told.given.1)))
+loop_again : tie.Need-loop-j-preserved invariant_loop decreases_loop
+loop_again c = (search rules, below_next c.loop-j.invariant.1 (fresh _ _ (sym (told c.before) ∙ c.in-Unknown.is)))
 
-returns_2 : tie.Need-returns-2 invariant_loop decreases_loop
+returns_2 : tie.Need-returns invariant_loop decreases_loop
 unfolding HashesDistinct
-returns_2 c = below_end _ c.before.loop.invariant.1 c.loop-test.false
+returns_2 c = below_end _ c.loop-j.invariant.1 c.loop-j-test.false
 
 pub distinct_spec : {M : Type 1} → statement M
 distinct_spec =

@@ -12,22 +12,22 @@ use Rattle.walk.proofs.clock_of.Tie as tie
 abbrev T : tie.Start → Tables
 T s = tables s.args.hashes.now s.args.nodes.now s.args.targets.now s.args.nexts.now s.args.clocks.now s.args.counts.now
 
-shared_slice_read_n : tie.Need-shared-slice-read-n
-shared_slice_read_n c = omega (arith, c.before.before.before.before.before.before.before.before.before.requires.0.sound.lengths.counts_three)
+shared_slice_read_n : tie.Need-bounds-counts-0
+shared_slice_read_n c = omega (arith, c.requires.0.sound.lengths.counts_three)
 
-cast_n : tie.Need-overflow-cast-n
-cast_n c = omega (arith, c.shared-slice-known8.given 0)
+cast_n : tie.Need-overflow_cast-n
+cast_n c = omega (arith, c.shared_slice_known-8-1.given 0)
 
-mark_list_requires : tie.Need-mark-list-requires
-mark_list_requires c κs = λ i l. omega (arith, c.before.before.before.before.before.before.before.before.before.before.before.before.before.before.before.requires.1.known i l, changes_few (T c.before.before.before.before.before.before.before.before.before.before.before.before.before.before.before) c.before.before.before.before.before.before.before.before.before.before.before.before.before.before.before.requires.0.sound)
+mark_list_requires : tie.Need-mark_list-requires
+mark_list_requires c κs = λ i l. omega (arith, c.requires.1.known i l, changes_few (T c.before.before.before.before.before.before.before.before.before.before.before.before.before.before.before) c.requires.0.sound)
 
 walk_requires : tie.Need-walk-requires
 walk_requires c κs = let s = c.before.before.before.before.before.before.before.before.before.before.before.before.before.before.before.before.before.before.before in
-    (walkable_whole (T s) _ _ _ s.requires.0 c.before.before.before.before.before.before.before.before.before.actor-room.ensures s.requires.1.enough s.requires.1.narrow c.before.before.before.before.before.before.before.clear.auto.0, omega (arith, c.before.before.before.mark-list.ensures.long, changes_few (T s) s.requires.0.sound))
+    (walkable_whole (T s) _ _ _ s.requires.0 c.actor_room-width.ensures s.requires.1.enough s.requires.1.narrow c.clear.auto.clock, omega (arith, c.mark_list.ensures.long, changes_few (T s) s.requires.0.sound))
 
 returns : tie.Need-returns
 returns c = let s = c.before.before.before.before.before.before.before.before.before.before.before.before.before.before.before.before.before.before.before.before.before.before.before in
-    clock_walked (T s) s.requires.0.sound _ _ _ _ _ _ 4096 c.before.before.before.before.before.before.before.before.before.before.before.clear.ensures c.before.before.before.before.before.before.before.mark-list.ensures c.before.before.before.walk.ensures
+    clock_walked (T s) s.requires.0.sound _ _ _ _ _ _ 4096 c.clear.ensures c.mark_list.ensures c.walk.ensures
 
 pub clock_of_spec : {M : Type 1} → statement M
 clock_of_spec =

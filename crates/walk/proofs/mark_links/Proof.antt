@@ -10,58 +10,58 @@ use native.Mathlib.Omega.{arith}
 use Rattle.walk.proofs.mark_links.Statement.{statement}
 use Rattle.walk.proofs.mark_links.Tie as tie
 
-abbrev invariant_loop : tie.invariant-loop
+abbrev invariant_loop : tie.invariant-loop-e
 invariant_loop targets nexts first marks₀ e₀ marks e = Marking targets nexts marks₀ first marks e
 
-abbrev decreases_loop : tie.decreases-loop
+abbrev decreases_loop : tie.decreases-loop-e
 decreases_loop targets nexts first marks₀ e₀ marks e = length (along targets nexts e)
 
 -- inside the loop
-module _ (c : tie.In-loop invariant_loop decreases_loop) where
-  pos : 0 < c.before.loop.e
-  pos = omega (arith, c.loop-test.true)
+module _ (c : tie.In-loop-e invariant_loop decreases_loop) where
+  pos : 0 < c.loop-e.e
+  pos = omega (arith, c.loop-e-test.true)
 
-  edge_in : c.before.loop.e - 1 < length c.before.before.args.targets.now
-  edge_in = chain_in _ _ _ _ c.before.loop.invariant.chain pos
+  edge_in : c.loop-e.e - 1 < length c.args.targets.now
+  edge_in = chain_in _ _ _ _ c.loop-e.invariant.chain pos
 
-  next_in : c.before.loop.e - 1 < length c.before.before.args.nexts.now
-  next_in = omega (arith, edge_in, c.before.before.requires.1)
+  next_in : c.loop-e.e - 1 < length c.args.nexts.now
+  next_in = omega (arith, edge_in, c.requires.1)
 
-loop_holds : tie.Need-loop-init invariant_loop decreases_loop
+loop_holds : tie.Need-loop-e-init invariant_loop decreases_loop
 loop_holds c = marking_start _ _ _ _ c.requires.0
 
-mul_t : tie.Need-overflow-mul-t invariant_loop decreases_loop
+mul_t : tie.Need-offset_bounds-targets-e invariant_loop decreases_loop
 mul_t c = omega (arith, edge_in c)
 
-shared_slice_read_t : tie.Need-shared-slice-read-t invariant_loop decreases_loop
+shared_slice_read_t : tie.Need-bounds-targets-e invariant_loop decreases_loop
 shared_slice_read_t c = edge_in c.before
 
-cast_t : tie.Need-overflow-cast-t invariant_loop decreases_loop
-cast_t c = omega (arith, c.shared-slice-known.given (c.before.before.loop.e - 1))
+cast_t : tie.Need-overflow_cast-t invariant_loop decreases_loop
+cast_t c = omega (arith, c.shared_slice_known-1.given (c.loop-e.e - 1))
 
-slice_write_marks : tie.Need-slice-write-marks invariant_loop decreases_loop
-slice_write_marks c = omega (arith, chain_target _ _ _ _ c.before.before.loop.invariant.chain (pos c.before), c.before.before.loop.invariant.long)
+slice_write_marks : tie.Need-bounds-marks-t invariant_loop decreases_loop
+slice_write_marks c = omega (arith, chain_target _ _ _ _ c.loop-e.invariant.chain (pos c.before), c.loop-e.invariant.long)
 
-mul_e : tie.Need-overflow-mul-e invariant_loop decreases_loop
+mul_e : tie.Need-offset_bounds-nexts-e invariant_loop decreases_loop
 mul_e c = omega (arith, next_in c.before)
 
-shared_slice_read_e : tie.Need-shared-slice-read-e invariant_loop decreases_loop
+shared_slice_read_e : tie.Need-bounds-nexts-e invariant_loop decreases_loop
 shared_slice_read_e c = next_in c.before.before
 
-cast_e : tie.Need-overflow-cast-e invariant_loop decreases_loop
-cast_e c = omega (arith, c.shared-slice-known2.given (c.before.before.before.loop.e - 1))
+cast_e : tie.Need-overflow_cast-e invariant_loop decreases_loop
+cast_e c = omega (arith, c.shared_slice_known-in-loop-e-1.given (c.loop-e.e - 1))
 
-loop_less : tie.Need-loop-smaller invariant_loop decreases_loop
-loop_less c = marking_less c.before.before.before.loop.invariant (pos c.before.before)
+loop_less : tie.Need-loop-e-smaller invariant_loop decreases_loop
+loop_less c = marking_less c.loop-e.invariant (pos c.before.before)
 
-loop_again : tie.Need-loop-preserved invariant_loop decreases_loop
-loop_again c = marking_next c.before.before.before.loop.invariant (pos c.before.before)
+loop_again : tie.Need-loop-e-preserved invariant_loop decreases_loop
+loop_again c = marking_next c.loop-e.invariant (pos c.before.before)
 
-same_length : tie.Need-same-length invariant_loop decreases_loop
-same_length c = c.before.loop.invariant.long
+same_length : tie.Need-shape_of-marks invariant_loop decreases_loop
+same_length c = c.loop-e.invariant.long
 
 returns : tie.Need-returns invariant_loop decreases_loop
-returns c = marking_end c.before.loop.invariant c.loop-test.false
+returns c = marking_end c.loop-e.invariant c.loop-e-test.false
 
 pub mark_links_spec : {M : Type 1} → statement M
 mark_links_spec =

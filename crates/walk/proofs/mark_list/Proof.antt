@@ -8,29 +8,29 @@ use native.Mathlib.Omega.{arith}
 use Rattle.walk.proofs.mark_list.Statement.{statement}
 use Rattle.walk.proofs.mark_list.Tie as tie
 
-abbrev invariant_loop : tie.invariant-loop
+abbrev invariant_loop : tie.invariant-loop-i
 invariant_loop starts marks₀ i₀ marks i = Listing starts marks₀ marks i
 
-abbrev decreases_loop : tie.decreases-loop
+abbrev decreases_loop : tie.decreases-loop-i
 decreases_loop starts marks₀ i₀ marks i = length starts - i
 
-loop_holds : tie.Need-loop-init invariant_loop decreases_loop
+loop_holds : tie.Need-loop-i-init invariant_loop decreases_loop
 loop_holds c = listing_start _ _
 
-cast_t : tie.Need-overflow-cast-t invariant_loop decreases_loop
-cast_t c = omega (arith, c.shared-slice-known.given c.before.before.loop.i)
+cast_t : tie.Need-overflow_cast-t invariant_loop decreases_loop
+cast_t c = omega (arith, c.shared_slice_known-1.given c.loop-i.i)
 
-slice_write_marks : tie.Need-slice-write-marks invariant_loop decreases_loop
-slice_write_marks c = omega (arith, c.before.before.before.requires c.before.before.loop.i c.before.loop-test.true, c.before.before.loop.invariant.long)
+slice_write_marks : tie.Need-bounds-marks-t invariant_loop decreases_loop
+slice_write_marks c = omega (arith, c.requires c.loop-i.i c.loop-i-test.true, c.loop-i.invariant.long)
 
-loop_again : tie.Need-loop-preserved invariant_loop decreases_loop
-loop_again c = listing_next c.before.before.loop.invariant c.before.loop-test.true (c.before.before.before.requires _ c.before.loop-test.true)
+loop_again : tie.Need-loop-i-preserved invariant_loop decreases_loop
+loop_again c = listing_next c.loop-i.invariant c.loop-i-test.true (c.requires _ c.loop-i-test.true)
 
-same_length : tie.Need-same-length invariant_loop decreases_loop
-same_length c = c.before.loop.invariant.long
+same_length : tie.Need-shape_of-marks invariant_loop decreases_loop
+same_length c = c.loop-i.invariant.long
 
 returns : tie.Need-returns invariant_loop decreases_loop
-returns c = listing_end c.before.loop.invariant c.loop-test.false
+returns c = listing_end c.loop-i.invariant c.loop-i-test.false
 
 pub mark_list_spec : {M : Type 1} → statement M
 mark_list_spec =

@@ -4,7 +4,6 @@
 use native.Mathlib.Omega.{arith}
 use Prim.Native.Nat.{suc, ◌-◌, ◌<◌}
 use mathlib.Core.Path.{◌≡◌, ◌∙◌}
-use borrow.Author.Tests.{not-true, not-false}
 use lib.ListN.{get_or}
 use Rattle.tables.specs.Tables.{tables}
 use Rattle.walk.specs.RowLaws.{walkable_down}
@@ -12,84 +11,84 @@ use Rattle.walk.specs.WalkLaws.{Walking, walking_start, walking_skip, walking_ke
 use Rattle.walk.proofs.walk.Statement.{statement}
 use Rattle.walk.proofs.walk.Tie as tie
 
-abbrev invariant_loop : tie.invariant-loop
+abbrev invariant_loop : tie.invariant-loop-k
 invariant_loop hashes nodes targets nexts clocks counts width top limit clock₀ marks₀ k₀ visited₀ clock marks k visited = Walking (tables hashes nodes targets nexts clocks counts) top limit clock₀ marks₀ clock marks k visited
 
-abbrev decreases_loop : tie.decreases-loop
+abbrev decreases_loop : tie.decreases-loop-k
 decreases_loop hashes nodes targets nexts clocks counts width top limit clock₀ marks₀ k₀ visited₀ clock marks k visited = k
 
 -- the way back from each place
-abbrev start : tie.At-loop invariant_loop decreases_loop → tie.Start invariant_loop decreases_loop
+abbrev start : tie.At-loop-k invariant_loop decreases_loop → tie.Start invariant_loop decreases_loop
 start l = l.before.before.before.before.before.before.before.before.before
 
-abbrev in_loop : tie.After-visit invariant_loop decreases_loop → tie.In-loop invariant_loop decreases_loop
+abbrev in_loop : tie.After-visit-kept invariant_loop decreases_loop → tie.In-loop-k invariant_loop decreases_loop
 in_loop v = v.before.before.before.before.before
 
 -- the node below
-module _ (c : tie.In-loop invariant_loop decreases_loop) where
-  below : c.before.loop.k ≡ suc (c.before.loop.k - 1)
-  below = omega (arith, c.loop-test.true)
+module _ (c : tie.In-loop-k invariant_loop decreases_loop) where
+  below : c.loop-k.k ≡ suc (c.loop-k.k - 1)
+  below = omega (arith, c.loop-k-test.true)
 
-  known : c.before.loop.k - 1 < get_or (start c.before).args.counts.now 0 0
-  known = omega (arith, c.loop-test.true, c.before.loop.invariant.count, (start c.before).pre.0.inside)
+  known : c.loop-k.k - 1 < get_or (start c.before).args.counts.now 0 0
+  known = omega (arith, c.loop-k-test.true, c.loop-k.invariant.count, (start c.before).requires.0.inside)
 
-loop_holds : tie.Need-loop-init invariant_loop decreases_loop
+loop_holds : tie.Need-loop-k-init invariant_loop decreases_loop
 loop_holds c = walking_start _ _ _ _ _
 
-slice_read_if1 : tie.Need-slice-read-if1 invariant_loop decreases_loop
-slice_read_if1 c = let l = c.before.before in omega (arith, l.loop.invariant.marks_long, l.loop.invariant.count, (start l).requires.1, c.before.loop-test.true)
+slice_read_if1 : tie.Need-bounds-marks-k invariant_loop decreases_loop
+slice_read_if1 c = let l = c.before.before in omega (arith, l.loop-k.invariant.marks_long, l.loop-k.invariant.count, (start l).requires.1, c.loop-k-test.true)
 
-add_visited : tie.Need-overflow-add-visited invariant_loop decreases_loop
-add_visited c = let l = c.before.before.before in omega (arith, l.loop.invariant.count, (start l).ranges.top, c.before.before.loop-test.true)
+add_visited : tie.Need-overflow_add-visited invariant_loop decreases_loop
+add_visited c = let l = c.before.before.before in omega (arith, l.loop-k.invariant.count, (start l).ranges.top, c.loop-k-test.true)
 
-visit_requires : tie.Need-visit-requires invariant_loop decreases_loop
+visit_requires : tie.Need-visit-kept-requires invariant_loop decreases_loop
 visit_requires c κs = let l = c.before.before.before.before.before in
     let s = start l in
-    let v = l.loop.invariant in
-    let h = c.before.before.before.before.loop-test.true in
-    (rw v.long (walkable_down _ _ _ _ _ s.pre.0 (omega (arith, v.count))), (omega (arith, v.marks_long, v.count, s.pre.1), omega (arith, c.before.before.if1.true)))
+    let v = l.loop-k.invariant in
+    let h = c.loop-k-test.true in
+    (rw v.long (walkable_down _ _ _ _ _ s.requires.0 (omega (arith, v.count))), (omega (arith, v.marks_long, v.count, s.requires.1), omega (arith, c.if-marks-k-ne0.true)))
 
-loop_less : tie.Need-loop-smaller invariant_loop decreases_loop
-loop_less c = omega (arith, (in_loop c.before.before.before.before.before.before).loop-test.taken)
+loop_less : tie.Need-loop-k-smaller-else-limit-visited invariant_loop decreases_loop
+loop_less c = omega (arith, (in_loop c.before.before.before.before.before.before).loop-k-test.true)
 
-loop_again : tie.Need-loop-preserved invariant_loop decreases_loop
+loop_again : tie.Need-loop-k-preserved-else-limit-visited invariant_loop decreases_loop
 loop_again c = let v = c.before.before.before.before.before.before in
     let i = in_loop v in
-    walking_plain _ _ _ _ _ _ _ (start i.before).pre.0.sound _ _ (below i) i.before.loop.inv (known i) _ _ _ v.visit.ensures (omega (arith, v.before.before.before.if1.true)) (not-true _ c.before.if2.true) (omega (arith, c.if3.false))
+    walking_plain _ _ _ _ _ _ _ (start i.before).requires.0.sound _ _ (below i) i.loop-k.invariant (known i) _ _ _ v.visit-kept.ensures (omega (arith, v.if-marks-k-ne0.true)) c.if-not-kept.true (omega (arith, c.if-limit-visited.false))
 
-loop_less_2 : tie.Need-loop-smaller-2 invariant_loop decreases_loop
-loop_less_2 c = omega (arith, (in_loop c.before.before.before.before.before).loop-test.taken)
+loop_less_2 : tie.Need-loop-k-smaller-else-not-kept invariant_loop decreases_loop
+loop_less_2 c = omega (arith, (in_loop c.before.before.before.before.before).loop-k-test.true)
 
-loop_again_2 : tie.Need-loop-preserved-2 invariant_loop decreases_loop
+loop_again_2 : tie.Need-loop-k-preserved-else-not-kept invariant_loop decreases_loop
 loop_again_2 c = let v = c.before.before.before.before.before in
     let i = in_loop v in
-    walking_kept _ _ _ _ _ _ _ (start i.before).pre.0.sound _ _ (below i) i.before.loop.inv (known i) _ _ _ v.visit.ensures (omega (arith, v.before.before.before.if1.true)) (not-false _ c.if2.false)
+    walking_kept _ _ _ _ _ _ _ (start i.before).requires.0.sound _ _ (below i) i.loop-k.invariant (known i) _ _ _ v.visit-kept.ensures (omega (arith, v.if-marks-k-ne0.true)) c.if-not-kept.false
 
-loop_less_3 : tie.Need-loop-smaller-3 invariant_loop decreases_loop
-loop_less_3 c = omega (arith, c.before.before.loop-test.true)
+loop_less_3 : tie.Need-loop-k-smaller invariant_loop decreases_loop
+loop_less_3 c = omega (arith, c.loop-k-test.true)
 
-loop_again_3 : tie.Need-loop-preserved-3 invariant_loop decreases_loop
-loop_again_3 c = walking_skip _ _ _ _ _ _ _ (start c.before.before.before).pre.0.sound _ _ (below c.before.before) c.before.before.before.loop.invariant c.if1.false
+loop_again_3 : tie.Need-loop-k-preserved invariant_loop decreases_loop
+loop_again_3 c = walking_skip _ _ _ _ _ _ _ (start c.before.before.before).requires.0.sound _ _ (below c.before.before) c.loop-k.invariant c.if-marks-k-ne0.false
 
-same_length : tie.Need-same-length invariant_loop decreases_loop
-same_length c = c.before.loop.invariant.long
+same_length : tie.Need-shape_of-clock-after-loop-k invariant_loop decreases_loop
+same_length c = c.loop-k.invariant.long
 
-same_length_2 : tie.Need-same-length-2 invariant_loop decreases_loop
-same_length_2 c = c.before.loop.invariant.marks_long
+same_length_2 : tie.Need-shape_of-marks-after-loop-k invariant_loop decreases_loop
+same_length_2 c = c.loop-k.invariant.marks_long
 
-returns : tie.Need-returns invariant_loop decreases_loop
-returns c = walking_end _ _ _ _ _ _ _ (start c.before).pre.0.sound c.before.loop.invariant (omega (arith, c.loop-test.false))
+returns : tie.Need-returns-after-loop-k invariant_loop decreases_loop
+returns c = walking_end _ _ _ _ _ _ _ (start c.before).requires.0.sound c.loop-k.invariant (omega (arith, c.loop-k-test.false))
 
-same_length_3 : tie.Need-same-length-3 invariant_loop decreases_loop
-same_length_3 c = let v = c.before.before.before.before.before.before in v.visit.ensures.long ∙ (in_loop v).before.loop.invariant.long
+same_length_3 : tie.Need-shape_of-clock-then-limit-visited invariant_loop decreases_loop
+same_length_3 c = let v = c.before.before.before.before.before.before in v.visit-kept.ensures.long ∙ (in_loop v).loop-k.invariant.long
 
-same_length_4 : tie.Need-same-length-4 invariant_loop decreases_loop
-same_length_4 c = let v = c.before.before.before.before.before.before in v.visit.ensures.marks_long ∙ (in_loop v).before.loop.invariant.marks_long
+same_length_4 : tie.Need-shape_of-marks-then-limit-visited invariant_loop decreases_loop
+same_length_4 c = let v = c.before.before.before.before.before.before in v.visit-kept.ensures.marks_long ∙ (in_loop v).loop-k.invariant.marks_long
 
-returns_2 : tie.Need-returns-2 invariant_loop decreases_loop
+returns_2 : tie.Need-returns-then-limit-visited invariant_loop decreases_loop
 returns_2 c = let v = c.before.before.before.before.before.before in
     let i = in_loop v in
-    walking_stop _ _ _ _ _ _ _ (start i.before).pre.0.sound _ _ (below i) i.before.loop.inv (known i) _ _ _ v.visit.ensures (omega (arith, v.before.before.before.if1.true)) (not-true _ c.before.if2.true) (omega (arith, c.if3.true))
+    walking_stop _ _ _ _ _ _ _ (start i.before).requires.0.sound _ _ (below i) i.loop-k.invariant (known i) _ _ _ v.visit-kept.ensures (omega (arith, v.if-marks-k-ne0.true)) c.if-not-kept.true (omega (arith, c.if-limit-visited.true))
 
 pub walk_spec : {M : Type 1} → statement M
 walk_spec =
