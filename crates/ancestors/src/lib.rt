@@ -1,4 +1,6 @@
 // The listed hashes outside the history of other listed hashes, the heads, over valid tables: ascending, each once. Nothing is changed but the lent buffer.
+#![tactic(auto)]
+
 ghost use Rattle.std.specs.Prelude.{◌≡◌, ◌+◌, ◌*◌, ◌/◌, ◌≤◌, ◌<◌, length};
 ghost use Rattle.paper.specs.Lists.{tally, hash_at, hashes_of};
 ghost use Rattle.paper.specs.Graph.{hist, nodes as nodes-of};

@@ -1,6 +1,6 @@
 -- The answers of questions: their numbers, and what a lent buffer holds afterwards.
 -- Assumes nothing.
-use Rattle.std.specs.Prelude.{Bool, cond, List, [], ◌∷◌, ◌++◌, ℕ, ◌%◌, eqb, ltb, leb, length, drop}
+use Rattle.std.specs.Prelude.{Bool, cond, List, ◌++◌, ℕ, ◌%◌, eqb, ltb, leb, length, drop}
 use Rattle.paper.specs.Numbers.{number, done, malformed, not_found, no_owner, short_buffer}
 use Rattle.paper.specs.Graph.{Graph}
 use Rattle.answer_buffer.specs.declared.Place.{Place}

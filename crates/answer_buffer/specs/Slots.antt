@@ -1,6 +1,6 @@
 -- Entering a hash into an ascending list: how two hashes stand, where the new one goes, and the bytes moved up for it.
 -- Assumes nothing.
-use Rattle.std.specs.Prelude.{Bool, cond, List, [], ◌∷◌, ◌++◌, ℕ, suc, ◌+◌, ◌-◌, take, drop}
+use Rattle.std.specs.Prelude.{cond, List, [], ◌∷◌, ◌++◌, ℕ, suc, ◌+◌, ◌-◌, take, drop}
 use Rattle.paper.specs.Lists.{same_list, less_list}
 use Rattle.answer_buffer.specs.declared.Order.{Order}
 use Rattle.answer_buffer.specs.declared.Order.TheVariants.{Less, Same, Greater}

@@ -1,4 +1,6 @@
 // The answers of questions with the paper's numbers, and hashes written into a lent buffer: one, or one after the other in ascending order.
+#![tactic(auto)]
+
 ghost use Rattle.std.specs.Prelude.{◌≡◌, ◌++◌, ◌+◌, ◌*◌, ◌≤◌, ◌<◌, length, drop};
 ghost use Rattle.paper.specs.Lists.{hash_at, hashes_from, enter};
 ghost use Rattle.paper.specs.Text.{flat};
@@ -7,7 +9,7 @@ ghost use Rattle.answer_buffer.specs.Answers.{place_number, yes_no_number, liste
 ghost use Rattle.answer_buffer.specs.Slots.{order_of, slot, shifted};
 
 // A node's number, or why there is none.
-#[derive(Drop)]
+#[derive(Clone, Copy)]
 pub enum Place {
     At(usize),
     Malformed,
@@ -15,7 +17,7 @@ pub enum Place {
 }
 
 // Yes or no.
-#[derive(Drop)]
+#[derive(Clone, Copy)]
 pub enum YesNo {
     Yes,
     No,
@@ -23,7 +25,7 @@ pub enum YesNo {
 }
 
 // How many elements of the lent buffer the answer takes, or why nothing is written.
-#[derive(Drop)]
+#[derive(Clone, Copy)]
 pub enum Listed {
     Done(usize),
     Malformed,
@@ -33,7 +35,7 @@ pub enum Listed {
 }
 
 // How one hash stands to another.
-#[derive(Drop)]
+#[derive(Clone, Copy)]
 pub enum Order {
     Less,
     Same,
@@ -41,7 +43,7 @@ pub enum Order {
 }
 
 // Where a hash goes in an ascending list, or that it stands there.
-#[derive(Drop)]
+#[derive(Clone, Copy)]
 pub enum Slot {
     Before(usize),
     There,

@@ -1,4 +1,6 @@
 // Whether a graph in valid tables is chained: one pass over the nodes and their edges. Nothing is changed.
+#![tactic(auto)]
+
 ghost use Rattle.std.specs.Prelude.{◌≡◌, ◌+◌, ◌*◌, ◌≤◌, ◌<◌, length};
 ghost use Rattle.tables.specs.Tables.{tables, graph, along, first_at};
 ghost use Rattle.tables.specs.Valid.{Valid};

@@ -1,4 +1,6 @@
 // Whether a list of hashes names exactly the heads of a graph in valid tables, order and repeats ignored. Nothing is changed.
+#![tactic(auto)]
+
 ghost use Rattle.std.specs.Prelude.{◌≡◌, ◌+◌, ◌*◌, ◌/◌, ◌≤◌, ◌<◌, length};
 ghost use Rattle.paper.specs.Lists.{some_below, all_below, hash_at, names, hashes_of};
 ghost use Rattle.tables.specs.Tables.{tables, graph};

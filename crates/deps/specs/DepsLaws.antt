@@ -1,12 +1,11 @@
 -- The steps of writing the hashes of listed nodes, and each answer from its condition.
 -- Assumes nothing.
-use Rattle.std.specs.Prelude.{◌≡◌, refl, true, List, [], ◌∷◌, ◌++◌, map, ℕ, zero, suc, ◌+◌, ◌*◌, ◌≤◌, ◌<◌, eqb, ltb, length, get_or, take}
-use Rattle.std.proofs.Common.{sym, ap, subst, ◌∙◌, append_assoc, append-nil, not-suc-le-zero, le_of_suc-le-suc, add-one, arith, length-append, length-take-le, eq-eqb, ne_eqb, ltb-true}
-use Rattle.std.proofs.Math.Bool.{or-true}
+use Rattle.std.specs.Prelude.{◌≡◌, refl, true, List, [], ◌∷◌, ◌++◌, map, ℕ, zero, suc, ◌+◌, ◌*◌, ◌≤◌, ◌<◌, ltb, length, get_or, take}
+use Rattle.std.proofs.Common.{sym, ap, subst, ◌∙◌, append_assoc, append-nil, not-suc-le-zero, le_of_suc-le-suc, add-one, arith, length-take-le, eq-eqb, ne_eqb, ltb-true}
 use Rattle.paper.specs.Lists.{mem, hash_at}
 use Rattle.paper.specs.Text.{flat}
 use Rattle.paper.specs.Graph.{Graph, node}
-use Rattle.paper.proofs.Bools.{by_bool, not-both, mem_nil, mem_cons, mem_here, mem_get_d}
+use Rattle.paper.proofs.Bools.{by_bool, not-both, mem_nil, mem_get_d}
 use Rattle.hash.specs.HashLaws.{hash_length}
 use Rattle.tables.specs.Tables.{Tables, changes, graph}
 use Rattle.tables.specs.Valid.{Valid}
@@ -16,7 +15,7 @@ use Rattle.answer_buffer.specs.Answers.{list_answer, filled}
 use Rattle.answer_buffer.specs.AnswerLaws.{Holds, holds_start, holds_next, holds_as}
 use Rattle.answer_buffer.specs.Room.{room}
 use Rattle.answer_buffer.specs.declared.Listed.TheVariants.{Malformed}
-use Rattle.deps.specs.Deps.{node_deps, hash_deps, deps_told, deps_filled}
+use Rattle.deps.specs.Deps.{hash_deps, deps_told, deps_filled}
 use Rattle.deps.specs.Parents.{deps_nodes, DepsListed}
 
 -- ---- the hashes of listed nodes
@@ -40,22 +39,8 @@ unfolding flat
 flat_last f [] x = append-nil (f x)
 flat_last f (y ∷ l) x = ap (λ (r : List ℕ). f y ++ r) (flat_last f l x) ∙ sym (append_assoc (f y) (flat (map f l)) (f x))
 
-flat_wide : (f : ℕ → List ℕ) (l : List ℕ) → ((j : ℕ) → mem j l ≡ true → length (f j) ≡ 32) → length (flat (map f l)) ≡ 32 * length l
-unfolding flat
-flat_wide f [] w = refl
-flat_wide f (x ∷ l) w =
-    let a = length-append (f x) (flat (map f l)) in
-    let b = w x (mem_here x l) in
-    let r = flat_wide f l (λ j m. w j (mem_cons j x l ∙ rw m (or-true (eqb j x)))) in
-    omega arith
-
--- the answer is the hashes of the nodes that the hash depends on
-hashes_of : (g : Graph) (h : List ℕ) → flat (map g.hash (deps_nodes g h)) ≡ hash_deps g h
-unfolding deps_nodes hash_deps node_deps flat
-hashes_of g h = by_bool (ltb (node g h) g.size) (λ t. rw t) (λ f. rw f)
-
 -- which are nodes
-nodes_low : (t : Tables) → Valid t → (h : List ℕ) (j : ℕ) → mem j (deps_nodes (graph t) h) ≡ true → j < changes t
+pub nodes_low : (t : Tables) → Valid t → (h : List ℕ) (j : ℕ) → mem j (deps_nodes (graph t) h) ≡ true → j < changes t
 unfolding deps_nodes
 nodes_low t v h j = by_bool (ltb (node (graph t) h) (changes t))
     (λ y. rw y (λ m. let l = ltb-true (node (graph t) h) (changes t) y in let d = (valid_graph t v.sound).down (node (graph t) h) j l m in omega arith))
@@ -70,18 +55,6 @@ module _ (t : Tables) (v : Valid t) (h ps : List ℕ) (n : ℕ) (d : DepsListed 
 
   pub target_in : (i : ℕ) → i < n → 32 * get_or ps i 0 + 32 ≤ length t.hashes
   target_in i l = let b = target_low i l in let r = (room t v).hashes_in in omega arith
-
-  listed_hashes : flat (map (graph t).hash (take n ps)) ≡ hash_deps (graph t) h
-  listed_hashes = ap (λ (q : List ℕ). flat (map (graph t).hash q)) (d.listed one) ∙ hashes_of (graph t) h
-
-  pub deps_long : length (hash_deps (graph t) h) ≡ 32 * n
-  deps_long =
-      let b = d.long in
-      let w : length (take n ps) ≡ n = length-take-le n ps b in
-      let r = (room t v).hashes_in in
-      let f = flat_wide (graph t).hash (take n ps) (λ j m. hash_length t.hashes j (let l = nodes_low t v h j (subst (λ (q : List ℕ). mem j q ≡ true) (d.listed one) m) in omega arith)) in
-      let e = ap length listed_hashes in
-      omega arith
 
 -- ---- writing them: those of the first i stand in the buffer
 
@@ -103,10 +76,6 @@ telling_next t ps {out₀} {out} {c} {i} s l w f =
           holds_as (holds_next s.holds (hash_at t.hashes x) 32 (hash_length t.hashes x w) f) (flat (map (graph t).hash (take (i + 1) ps)))
           (sym (ap (λ (q : List ℕ). flat (map (graph t).hash q)) (take_last i ps l) ∙ flat_last (graph t).hash (take i ps) x));
     }
-
-pub telling_end : (t : Tables) (v : Valid t) (h ps : List ℕ) (n : ℕ) (d : DepsListed t h ps n) (one : length h ≡ 32) {out₀ out : List ℕ} {c i : ℕ} → Telling t ps out₀ out c i → i ≡ n → Holds (hash_deps (graph t) h) out₀ out c
-telling_end t v h ps n d one {out₀} {out} {c} {i} s e =
-    holds_as s.holds (hash_deps (graph t) h) (ap (λ (k : ℕ). flat (map (graph t).hash (take k ps))) e ∙ listed_hashes t v h ps n d one)
 
 -- ---- each answer
 

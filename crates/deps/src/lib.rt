@@ -1,5 +1,7 @@
 // The dependencies of a hash, in listed order with repeats: where its list of edges begins, and the hashes of the nodes that a walk along that list put down.
 // Nothing is changed but the lent buffer.
+#![tactic(auto)]
+
 ghost use Rattle.std.specs.Prelude.{◌≡◌, ℕ, length};
 ghost use Rattle.tables.specs.Tables.{tables, graph};
 ghost use Rattle.tables.specs.Valid.{Valid};

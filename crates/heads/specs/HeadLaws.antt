@@ -10,7 +10,7 @@ use Prim.Native.Nat.{ℕ, zero, suc, ◌+◌, ◌*◌, ◌-◌, ◌≤◌, ◌<�
 use native.Mathlib.Omega.{arith}
 use Rattle.std.proofs.Math.Nat.{sub-zero}
 use Rattle.std.proofs.Math.ListN.{length, drop, length-append, length-drop}
-use Rattle.paper.specs.Lists.{pick, tally, first_below, same_list, names, ascending, hash_at, hashes_from, enter, every}
+use Rattle.paper.specs.Lists.{tally, first_below, same_list, names, ascending, hash_at, hashes_from, enter, every}
 use Rattle.paper.specs.Text.{flat}
 use Rattle.paper.specs.Graph.{node, nodes, wanted, head_nodes, heads}
 use Rattle.paper.proofs.Bools.{by_bool, not-both, to_false, or_cases, tally_ext, below_or_not}
@@ -224,14 +224,6 @@ module _ (t : Tables) (v : Valid t) where
   pub places_long : length (head_places (graph t)) ≡ tally (is_head t) (changes t)
   unfolding head_places nodes
   places_long = map_long (node (graph t)) (heads (graph t)) ∙ heads_long t v
-
-  pub list_long : (out₀ out : List ℕ) → out ≡ filled (head_hashes (graph t)) out₀ → 32 * tally (is_head t) (changes t) ≤ length out₀ → length out ≡ length out₀
-  list_long out₀ out s l =
-      let n = hashes_long t v in
-      let a = length-append (head_hashes (graph t)) (drop (length (head_hashes (graph t))) out₀) in
-      let d = length-drop (length (head_hashes (graph t))) out₀ in
-      let f = ap length (s ∙ filled_done (head_hashes (graph t)) out₀ (omega arith)) in
-      omega arith
 
   -- the list that the heads were written to names them
   pub listed_heads : (out₀ out : List ℕ) (c : ℕ) → out ≡ filled (head_hashes (graph t)) out₀ → 32 * tally (is_head t) (changes t) ≤ length out₀ → c ≡ tally (is_head t) (changes t) → hashes_from out c 0 ≡ heads (graph t)

@@ -1,4 +1,6 @@
 // The heads of a graph in valid tables: their hashes in ascending order, and their nodes in that order. Nothing is changed but the lent buffer.
+#![tactic(auto)]
+
 ghost use Rattle.std.specs.Prelude.{◌≡◌, Bool, map, ℕ, ◌+◌, ◌*◌, ◌≤◌, ◌<◌, eqb, length};
 ghost use Rattle.paper.specs.Lists.{tally, hashes_from};
 ghost use Rattle.paper.specs.Text.{flat};

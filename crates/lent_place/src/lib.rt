@@ -1,4 +1,6 @@
 // A place that the caller lends for a number beside the answer.
+#![tactic(auto)]
+
 ghost use Rattle.std.specs.Prelude.{◌≡◌};
 ghost use Rattle.lent_place.specs.Places.{told_in};
 

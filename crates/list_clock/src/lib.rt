@@ -1,4 +1,6 @@
 // The clock of a list of hashes over valid tables, and the nodes that a walk from the list starts at. Nothing is changed but the lent buffer, and nothing is cached.
+#![tactic(auto)]
+
 ghost use Rattle.std.specs.Prelude.{◌≡◌, ℕ, ◌+◌, ◌*◌, ◌/◌, ◌≤◌, ◌<◌, length, replicate};
 ghost use Rattle.paper.specs.Lists.{pick, each_below, hashes_of};
 ghost use Rattle.paper.specs.Graph.{known, nodes as nodes-of};

@@ -1,4 +1,6 @@
 // The small questions about a graph in valid tables: a hash's node and a node's hash, an actor's changes, counts. Nothing is changed but the lent buffer.
+#![tactic(auto)]
+
 ghost use Rattle.std.specs.Prelude.{◌≡◌, Bool, ◌&&◌, ℕ, ◌+◌, ◌*◌, ◌≤◌, ◌<◌, eqb, ltb, length};
 ghost use Rattle.paper.specs.Lists.{first_below, tally};
 ghost use Rattle.paper.specs.Graph.{change_at, max_op_of};
@@ -14,7 +16,7 @@ use answer_buffer::{Listed, Place, YesNo};
 use hash::Found;
 
 // Which actors are listed: those with changes, those without, or all.
-#[derive(Drop)]
+#[derive(Clone, Copy)]
 pub enum Which {
     Used,
     Unused,

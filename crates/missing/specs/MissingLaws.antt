@@ -2,7 +2,7 @@
 -- Assumes nothing.
 use Rattle.std.specs.Prelude.{◌≡◌, ℕ, ◌*◌, ◌%◌, ◌≤◌, ◌<◌, length, take}
 use Rattle.std.proofs.Math.Path.{ap}
-use Rattle.std.proofs.Common.{◌∙◌, arith}
+use Rattle.std.proofs.Common.{arith}
 use mathlib.Core.List.{List, map}
 use Rattle.std.proofs.Math.Dec.{ltb}
 use borrow.Author.Tests.{eq-eqb, ne_eqb}

@@ -1,4 +1,6 @@
 // What is missing to who has the listed hashes: every node whose sequence is above its actor's entry in the list's clock. Nothing is changed but the lent buffer.
+#![tactic(auto)]
+
 ghost use Rattle.std.specs.Prelude.{◌≡◌, Bool, map, ℕ, ◌+◌, ◌*◌, ◌≤◌, ◌<◌, length};
 ghost use Rattle.paper.specs.Lists.{pick, tally, hash_at};
 ghost use Rattle.paper.specs.Text.{flat};

@@ -6,8 +6,8 @@ use Rattle.std.proofs.Common.{◌∙◌, add-one, arith, length-set, get_or-set_
 use Rattle.std.proofs.Math.Logic.{⊎_elim}
 use Rattle.std.proofs.lemmas.List.{length-replicate}
 use Rattle.std.proofs.lemmas.Bool.{eqb-false}
-use Rattle.paper.specs.Lists.{each_below, first_below, hashes_of}
-use Rattle.paper.specs.Graph.{Graph, nodes, change_at, max_op_of, op_clock, ValidGraph as ValidGraph}
+use Rattle.paper.specs.Lists.{each_below, first_below}
+use Rattle.paper.specs.Graph.{Graph, change_at, max_op_of, op_clock, ValidGraph as ValidGraph}
 use Rattle.paper.proofs.Bools.{by_bool, not-both, and_fst, and_snd, below_or_not}
 use Rattle.paper.proofs.First.{first_says}
 use Rattle.paper.proofs.Chain.{same_node}
@@ -16,7 +16,7 @@ use Rattle.tables.specs.Tables.{Tables, graph, changes, actors, actor_at, seq_at
 use Rattle.tables.specs.Valid.{Valid}
 use Rattle.tables.specs.DepsLaws.{valid_graph}
 use Rattle.walk.specs.Whole.{cleared}
-use Rattle.lookups.specs.LookupLaws.{change_says, max_op_known, max_op_none}
+use Rattle.lookups.specs.LookupLaws.{max_op_known, max_op_none}
 use Rattle.answer_buffer.specs.Answers.{list_answer, filled}
 use Rattle.answer_buffer.specs.AnswerLaws.{filled_done}
 use Rattle.answer_buffer.specs.Room.{room, actor_low}

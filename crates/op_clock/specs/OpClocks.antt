@@ -1,6 +1,6 @@
 -- The op clock of a list of hashes as an answer.
 -- Assumes nothing.
-use Rattle.std.specs.Prelude.{◌≡◌, Bool, cond, ◌&&◌, List, ℕ, zero, suc, ◌*◌, ◌≤◌, ◌<◌, eqb, length, get_or}
+use Rattle.std.specs.Prelude.{Bool, cond, ◌&&◌, List, ℕ, zero, suc, ◌*◌, ◌≤◌, ◌<◌, eqb, length, get_or}
 use Rattle.paper.specs.Lists.{each_below, hashes_of}
 use Rattle.paper.specs.Graph.{Graph, nodes, op_clock}
 use Rattle.tables.specs.Tables.{Tables, graph, actors, actor_at, seq_at, max_op_at}

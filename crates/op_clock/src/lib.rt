@@ -1,4 +1,6 @@
 // The op clock of a list of hashes over valid tables: for each actor the max op of its change at the largest sequence in the list's history. Nothing is changed but the lent buffer.
+#![tactic(auto)]
+
 ghost use Rattle.std.specs.Prelude.{◌≡◌, cond, ℕ, ◌+◌, ◌*◌, ◌≤◌, ◌<◌, eqb, length};
 ghost use Rattle.paper.specs.Lists.{each_below};
 ghost use Rattle.tables.specs.Tables.{tables};

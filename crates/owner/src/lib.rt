@@ -1,4 +1,6 @@
 // The owner of an op: the actor's change of lowest sequence whose op range holds the counter. Nothing is changed but the lent buffer.
+#![tactic(auto)]
+
 ghost use Rattle.std.specs.Prelude.{◌≡◌, Bool, ℕ, ◌+◌, ◌*◌, ◌≤◌, ◌<◌, length};
 ghost use Rattle.paper.specs.Lists.{first_below};
 ghost use Rattle.paper.specs.Graph.{owner};

@@ -14,17 +14,17 @@ use Rattle.ancestors.proofs.history_of.Tie as tie
 abbrev T : tie.Start → Tables
 T s = tables s.args.hashes.now s.args.nodes.now s.args.targets.now s.args.nexts.now s.args.clocks.now s.args.counts.now
 
-few : (c : tie.After-starts-of) → c.starts-of.result ≤ 4096
-few c = let s = c.before.before.before.before.before.before.before.before.before.before in let a = starts_few _ _ c.starts-of.ensures in let b = (room (T s) s.requires.0).few in omega arith
+few : (c : tie.After-starts_of-c) → c.starts_of-c.result ≤ 4096
+few c = let s = c.before.before.before.before.before.before.before.before.before.before in let a = starts_few _ _ c.starts_of-c.ensures in let b = (room (T s) s.requires.0).few in omega arith
 
-part_mark_history_end : tie.Need-slice-bounds-mark-history-end
-part_mark_history_end c = let a = few c.before.before in let k = c.before.before.starts-of.ensures.kept in let r = length-replicate {A = ℕ} 4096 0 in omega arith
+part_mark_history_end : tie.Need-slice_bounds-mark_history-end
+part_mark_history_end c = let a = few c.before in let k = c.starts_of-c.ensures.kept in let r = length-replicate {A = ℕ} 4096 0 in omega arith
 
-mark_history_requires : tie.Need-mark-history-requires
-mark_history_requires c κs = let s = c.before.before.before.before.before.before.before.before.before.before.before.before.before.before in (s.requires.0.sound, (s.requires.1, starts_low _ _ c.before.before.before.before.starts-of.ensures))
+mark_history_requires : tie.Need-mark_history-requires
+mark_history_requires c κs = let s = c.before.before.before.before.before.before.before.before.before.before.before.before.before in (s.requires.0.sound, (s.requires.1, starts_low _ _ c.starts_of-c.ensures))
 
 returns : tie.Need-returns
-returns c = let s = c.before.before.before.before.before.before.before.before.before.before.before.before.before.before.before.before.before in c.before.before.mark-history.ensures ∙ known_marks (T s) s.requires.0 s.args.list.now c.before.before.before.before.before.before.before.starts-of.ensures _
+returns c = let s = c.before.before.before.before.before.before.before.before.before.before.before.before.before.before.before.before in c.mark_history.ensures ∙ known_marks (T s) s.requires.0 s.args.list.now c.starts_of-c.ensures _
 
 pub history_of_spec : {M : Type 1} → statement M
 history_of_spec =

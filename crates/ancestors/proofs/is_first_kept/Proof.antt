@@ -9,14 +9,14 @@ use Rattle.ancestors.proofs.is_first_kept.Statement.{statement}
 use Rattle.ancestors.proofs.is_first_kept.Tie as tie
 
 -- the call looks for hash i among those before it
-told : (c : tie.After-find) → c.find.result ≡ find_hash c.before.before.before.before.before.args.list.now c.before.before.before.before.before.args.i (hash_at c.before.before.before.before.before.args.list.now c.before.before.before.before.before.args.i)
+told : (c : tie.After-find) → c.find.result ≡ find_hash c.args.list.now c.args.i (hash_at c.args.list.now c.args.i)
 told c = rw hash_part at c.find.ensures
 
-returns : tie.Need-returns
-returns c = let s = c.before.before.before.before.before.before.before in first_seen s.args.hashes.now s.args.n s.args.marks.now s.args.list.now s.args.i _ (sym (told c.before.before) ∙ c.enum-told2.given.1)
+returns : tie.Need-returns-in_default
+returns c = let s = c.before.before.before.before.before.before in first_seen s.args.hashes.now s.args.n s.args.marks.now s.args.list.now s.args.i _ (sym (told c.before) ∙ c.in_default.is)
 
-returns_2 : tie.Need-returns-2
-returns_2 c = let s = c.before.before.before.before.before.before.before.before in c.is-kept.ensures ∙ first_new s.args.hashes.now s.args.n s.args.marks.now s.args.list.now s.args.i (sym (told c.before.before.before) ∙ c.before.enum_told.given.1)
+returns_2 : tie.Need-returns
+returns_2 c = let s = c.before.before.before.before.before.before.before in c.is_kept.ensures ∙ first_new s.args.hashes.now s.args.n s.args.marks.now s.args.list.now s.args.i (sym (told c.before.before) ∙ c.in-Unknown.is)
 
 pub is_first_kept_spec : {M : Type 1} → statement M
 is_first_kept_spec =

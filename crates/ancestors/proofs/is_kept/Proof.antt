@@ -10,17 +10,17 @@ use Rattle.ancestors.proofs.is_kept.Statement.{statement}
 use Rattle.ancestors.proofs.is_kept.Tie as tie
 
 -- the call looks for hash i of the list
-told : (c : tie.After-find) → c.find.result ≡ find_hash c.before.before.before.before.before.args.hashes.now c.before.before.before.before.before.args.n (hash_at c.before.before.before.before.before.args.list.now c.before.before.before.before.before.args.i)
+told : (c : tie.After-find) → c.find.result ≡ find_hash c.args.hashes.now c.args.n (hash_at c.args.list.now c.args.i)
 told c = rw hash_part at c.find.ensures
 
-returns : tie.Need-returns
-returns c = let s = c.before.before.before.before.before.before.before in kept_unknown s.args.hashes.now s.args.n s.args.marks.now (hash_at s.args.list.now s.args.i) (sym (told c.before.before) ∙ c.enum_told.given.1)
+returns : tie.Need-returns-in_default
+returns c = let s = c.before.before.before.before.before.before in kept_unknown s.args.hashes.now s.args.n s.args.marks.now (hash_at s.args.list.now s.args.i) (sym (told c.before) ∙ c.in_default.is)
 
-shared_slice_read_result : tie.Need-shared-slice-read-result
-shared_slice_read_result c = let l = found_in _ _ _ _ (sym (told c.before.before.before.before) ∙ c.before.before.k.given.1) in let b = c.before.before.before.before.before.before.before.before.before.requires.1 in omega arith
+shared_slice_read_result : tie.Need-bounds-marks-k
+shared_slice_read_result c = let l = found_in _ _ _ _ (sym (told c.before.before) ∙ c.in-At.is) in let b = c.requires.1 in omega arith
 
-returns_2 : tie.Need-returns-2
-returns_2 c = let s = c.before.before.before.before.before.before.before.before.before in kept_found s.args.hashes.now s.args.n s.args.marks.now (hash_at s.args.list.now s.args.i) _ (sym (told c.before.before.before.before) ∙ c.before.before.k.given.1)
+returns_2 : tie.Need-returns
+returns_2 c = let s = c.before.before.before.before.before.before.before in kept_found s.args.hashes.now s.args.n s.args.marks.now (hash_at s.args.list.now s.args.i) _ (sym (told c.before.before) ∙ c.in-At.is)
 
 pub is_kept_spec : {M : Type 1} → statement M
 is_kept_spec =

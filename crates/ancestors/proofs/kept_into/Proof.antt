@@ -16,10 +16,10 @@ use Rattle.ancestors.specs.AncestorLaws.{kept_bytes_long, entered_told, entered_
 use Rattle.ancestors.proofs.kept_into.Statement.{statement}
 use Rattle.ancestors.proofs.kept_into.Tie as tie
 
-abbrev invariant_loop : tie.invariant-loop
+abbrev invariant_loop : tie.invariant-loop-i
 invariant_loop hashes n marks list out₀ count m c₀ i₀ out c i = (i ≤ length list / 32) × Entering (kept_to (hash_stays hashes n marks) list i) out₀ out c
 
-abbrev decreases_loop : tie.decreases-loop
+abbrev decreases_loop : tie.decreases-loop-i
 decreases_loop hashes n marks list out₀ count m c₀ i₀ out c i = length list / 32 - i
 
 -- what is asked of a hash
@@ -27,31 +27,31 @@ abbrev stays : tie.Start invariant_loop decreases_loop → List ℕ → Bool
 stays s = hash_stays s.args.hashes.now s.args.n s.args.marks.now
 
 -- the buffer has room for all that are kept
-fits : (c : tie.Else1 invariant_loop decreases_loop) → 32 * tally (first_kept c.before.before.before.before.before.before.args.hashes.now c.before.before.before.before.before.before.args.n c.before.before.before.before.before.before.args.marks.now c.before.before.before.before.before.before.args.list.now) (length c.before.before.before.before.before.before.args.list.now / 32) ≤ length c.before.before.before.before.before.before.args.out.now
-fits c = let n = c.before.count_kept.ensures in let l = c.if1.false in omega arith
+fits : (c : tie.Else-out-count invariant_loop decreases_loop) → 32 * tally (first_kept c.args.hashes.now c.args.n c.args.marks.now c.args.list.now) (length c.args.list.now / 32) ≤ length c.args.out.now
+fits c = let n = c.count_kept-count.ensures in let l = c.if-out-count.false in omega arith
 
-returns : tie.Need-returns invariant_loop decreases_loop
-returns c = let s = c.before.before.before.before.before.before in let b = kept_bytes s.args.hashes.now s.args.n s.args.marks.now s.args.list.now in let n = c.before.count_kept.ensures in let h = kept_bytes_long s.args.hashes.now s.args.n s.args.marks.now s.args.list.now in let l = c.if1.true in
+returns : tie.Need-returns-then-out-count invariant_loop decreases_loop
+returns c = let s = c.before.before.before.before.before.before in let b = kept_bytes s.args.hashes.now s.args.n s.args.marks.now s.args.list.now in let n = c.count_kept-count.ensures in let h = kept_bytes_long s.args.hashes.now s.args.n s.args.marks.now s.args.list.now in let l = c.if-out-count.true in
     (sym (listed_short b _ (omega arith)), sym (filled_short b _ (omega arith)))
 
-enter_hash_requires : tie.Need-enter-hash-requires invariant_loop decreases_loop
-enter_hash_requires c κs = let s = c.before.before.before.before.before.before.before.before.before.before.before in let l = c.before.before.before.loop-test.true in
-    (omega arith, enter_room (stays s) s.args.list.now (length s.args.list.now / 32) (omega arith) c.before.before.before.before.loop.invariant.1 (fits c.before.before.before.before.before) l (sym c.before.before.is-kept.ensures ∙ c.before.if2.true))
+enter_hash_requires : tie.Need-enter_hash-c-requires invariant_loop decreases_loop
+enter_hash_requires c κs = let s = c.before.before.before.before.before.before.before.before.before.before.before in let l = c.loop-i-test.true in
+    (omega arith, enter_room (stays s) s.args.list.now (length s.args.list.now / 32) (omega arith) c.loop-i.invariant.1 (fits c.before.before.before.before.before) l (sym c.is_kept.ensures ∙ c.if-is_kept.true))
 
-loop_again : tie.Need-loop-preserved invariant_loop decreases_loop
-loop_again c = let s = c.before.before.before.before.before.before.before.before.before.before in let l = c.before.before.loop-test.true in (
+loop_again : tie.Need-loop-i-preserved invariant_loop decreases_loop
+loop_again c = let s = c.before.before.before.before.before.before.before.before.before.before in let l = c.loop-i-test.true in (
   search rules,
   ⊎_elim
-      (λ w. rw (w.5, w.6) (enter_next (stays s) s.args.list.now (length s.args.list.now / 32) (omega arith) c.before.before.before.loop.invariant.1 (fits c.before.before.before.before) l (sym c.before.is-kept.ensures ∙ w.0.taken) _ _ w.2.ensures.0 w.2.ensures.1))
-      (λ w. rw (w.1, w.2) (enter_skip (stays s) s.args.list.now (length s.args.list.now / 32) (omega arith) c.before.before.before.loop.invariant.1 (fits c.before.before.before.before) l (sym c.before.is-kept.ensures ∙ w.0.left)))
-      c.if2.branch,
+      (λ w. rw (w.out-is, w.c-is) (enter_next (stays s) s.args.list.now (length s.args.list.now / 32) (omega arith) c.loop-i.invariant.1 (fits c.before.before.before.before) l (sym c.is_kept.ensures ∙ w.if-is_kept.true) _ _ w.enter_hash-c.ensures.0 w.enter_hash-c.ensures.1))
+      (λ w. rw (w.out-is, w.c-is) (enter_skip (stays s) s.args.list.now (length s.args.list.now / 32) (omega arith) c.loop-i.invariant.1 (fits c.before.before.before.before) l (sym c.is_kept.ensures ∙ w.if-is_kept.false)))
+      c.if-is_kept.branch-raw,
 )
 
-mul_t11 : tie.Need-overflow-mul-t11 invariant_loop decreases_loop
-mul_t11 c = let s = c.before.before.before.before.before.before.before.before in let b = kept_room (stays s) s.args.list.now (length s.args.list.now / 32) (omega arith) c.before.loop.invariant.1 (fits c.before.before) c.before.loop.invariant.0 in omega arith
+mul_t11 : tie.Need-overflow_mul-result invariant_loop decreases_loop
+mul_t11 c = let s = c.before.before.before.before.before.before.before.before in let b = kept_room (stays s) s.args.list.now (length s.args.list.now / 32) (omega arith) c.loop-i.invariant.1 (fits c.before.before) c.loop-i.invariant.0 in omega arith
 
-returns_2 : tie.Need-returns-2 invariant_loop decreases_loop
-returns_2 c = let s = c.before.before.before.before.before.before.before.before in let l = c.before.loop in let z : l.i ≡ length s.args.list.now / 32 = (let t = c.loop-test.false in let b = l.invariant.0 in omega arith) in
+returns_2 : tie.Need-returns invariant_loop decreases_loop
+returns_2 c = let s = c.before.before.before.before.before.before.before.before in let l = c.loop-i in let z : l.i ≡ length s.args.list.now / 32 = (let t = c.loop-i-test.false in let b = l.invariant.0 in omega arith) in
     (entered_told s.args.hashes.now s.args.n s.args.marks.now s.args.list.now l.invariant.1 (fits c.before.before) z, entered_whole s.args.hashes.now s.args.n s.args.marks.now s.args.list.now l.invariant.1 (fits c.before.before) z)
 
 pub kept_into_spec : {M : Type 1} → statement M
@@ -69,5 +69,5 @@ kept_into_spec =
     (λ c. search rules)
     loop_again
     mul_t11
-    (λ c. c.before.loop.invariant.1.kept)
+    (λ c. c.loop-i.invariant.1.kept)
     returns_2)

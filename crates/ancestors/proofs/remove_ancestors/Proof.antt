@@ -14,16 +14,16 @@ use Rattle.ancestors.proofs.remove_ancestors.Tie as tie
 abbrev T : tie.Start → Tables
 T s = tables s.args.hashes.now s.args.nodes.now s.args.targets.now s.args.nexts.now s.args.clocks.now s.args.counts.now
 
-returns : tie.Need-returns
-returns c = let s = c.before.before.before.before.before.before.before.before.before.before in (sym (list_bad (graph (T s)) _ _ c.if1.true _), sym (list_unfilled (graph (T s)) _ _ c.if1.true _))
+returns : tie.Need-returns-then-list-ne0
+returns c = let s = c.before.before.before.before.before.before.before.before.before.before in (sym (list_bad (graph (T s)) _ _ c.if-list-ne0.true _), sym (list_unfilled (graph (T s)) _ _ c.if-list-ne0.true _))
 
-returns_2 : tie.Need-returns-2
-returns_2 c = let s = c.before.before.before.before.before.before.before.before.before.before.before in (sym (heads_bad (graph (T s)) _ _ c.before.if1.false c.if2.true _), sym (heads_unfilled (graph (T s)) _ _ c.before.if1.false c.if2.true _))
+returns_2 : tie.Need-returns-then-heads-ne0
+returns_2 c = let s = c.before.before.before.before.before.before.before.before.before.before.before in (sym (heads_bad (graph (T s)) _ _ c.if-list-ne0.false c.if-heads-ne0.true _), sym (heads_unfilled (graph (T s)) _ _ c.if-list-ne0.false c.if-heads-ne0.true _))
 
-returns_3 : tie.Need-returns-3
-returns_3 c = let s = c.before.before.before.before.before.before.before.before.before.before.before.before.before.before.before.before.before.before.before.before in let b = removed_bytes (T s) s.requires s.args.list.now s.args.heads.now 4096 (room (T s) s.requires).few c.before.before.before.before.before.before.history-of.ensures in (
-  c.before.before.kept-into.ensures.0 ∙ ap (λ (l : List ℕ). list_answer l (length s.args.out.now)) b ∙ sym (removed_good (graph (T s)) _ _ c.before.before.before.before.before.before.before.before.before.before.if1.false c.before.before.before.before.before.before.before.before.before.if2.false _),
-  c.before.before.kept-into.ensures.1 ∙ ap (λ (l : List ℕ). filled l s.args.out.now) b ∙ sym (filled_good (graph (T s)) _ _ c.before.before.before.before.before.before.before.before.before.before.if1.false c.before.before.before.before.before.before.before.before.before.if2.false _),
+returns_3 : tie.Need-returns
+returns_3 c = let s = c.before.before.before.before.before.before.before.before.before.before.before.before.before.before.before.before.before.before.before.before in let b = removed_bytes (T s) s.requires s.args.list.now s.args.heads.now 4096 (room (T s) s.requires).few c.history_of.ensures in (
+  c.kept_into.ensures.0 ∙ ap (λ (l : List ℕ). list_answer l (length s.args.out.now)) b ∙ sym (removed_good (graph (T s)) _ _ c.if-list-ne0.false c.if-heads-ne0.false _),
+  c.kept_into.ensures.1 ∙ ap (λ (l : List ℕ). filled l s.args.out.now) b ∙ sym (filled_good (graph (T s)) _ _ c.if-list-ne0.false c.if-heads-ne0.false _),
 )
 
 pub remove_ancestors_spec : {M : Type 1} → statement M

@@ -11,26 +11,26 @@ use Rattle.hash.specs.HashLaws.{hash_length, hash_byte}
 use Rattle.answer_buffer.proofs.put_hash.Statement.{statement}
 use Rattle.answer_buffer.proofs.put_hash.Tie as tie
 
-abbrev invariant_loop : tie.invariant-loop
+abbrev invariant_loop : tie.invariant-loop-j
 invariant_loop out₀ at hashes k base j₀ out j = (j ≤ 32) × (out ≡ placing j (hash_at hashes k) at out₀) × (length out ≡ length out₀)
 
-abbrev decreases_loop : tie.decreases-loop
+abbrev decreases_loop : tie.decreases-loop-j
 decreases_loop out₀ at hashes k base j₀ out j = 32 - j
 
-loop_holds : tie.Need-loop-init invariant_loop decreases_loop
+loop_holds : tie.Need-loop-j-init invariant_loop decreases_loop
 loop_holds c = (search rules, placing_start _ _ _, refl)
 
-loop_again : tie.Need-loop-preserved invariant_loop decreases_loop
-loop_again c = let i = c.before.before.loop.invariant in let p = c.before.before.before.requires in (
+loop_again : tie.Need-loop-j-preserved invariant_loop decreases_loop
+loop_again c = let i = c.loop-j.invariant in let p = c.requires in (
   search rules,
-  ap (λ (l : List ℕ). set l (c.before.before.before.args.at + c.before.before.loop.j) (get_or c.before.before.before.args.hashes.now (32 * c.before.before.before.args.k + c.before.before.loop.j) 0)) i.1
-      ∙ ap (λ (v : ℕ). set (placing c.before.before.loop.j (hash_at c.before.before.before.args.hashes.now c.before.before.before.args.k) c.before.before.before.args.at c.before.before.before.args.out.now) (c.before.before.before.args.at + c.before.before.loop.j) v) (sym (hash_byte c.before.before.before.args.hashes.now c.before.before.before.args.k p.1 c.before.before.loop.j c.before.loop-test.true))
-      ∙ placing_next (hash_at c.before.before.before.args.hashes.now c.before.before.before.args.k) c.before.before.before.args.at c.before.before.before.args.out.now c.before.before.loop.j (omega arith) (rw (hash_length c.before.before.before.args.hashes.now c.before.before.before.args.k p.1) c.before.loop-test.true),
+  ap (λ (l : List ℕ). set l (c.args.at + c.loop-j.j) (get_or c.args.hashes.now (32 * c.args.k + c.loop-j.j) 0)) i.1
+      ∙ ap (λ (v : ℕ). set (placing c.loop-j.j (hash_at c.args.hashes.now c.args.k) c.args.at c.args.out.now) (c.args.at + c.loop-j.j) v) (sym (hash_byte c.args.hashes.now c.args.k p.1 c.loop-j.j c.loop-j-test.true))
+      ∙ placing_next (hash_at c.args.hashes.now c.args.k) c.args.at c.args.out.now c.loop-j.j (omega arith) (rw (hash_length c.args.hashes.now c.args.k p.1) c.loop-j-test.true),
   simp length-set i.2,
 )
 
 returns : tie.Need-returns invariant_loop decreases_loop
-returns c = c.before.loop.invariant.1 ∙ placing_end _ _ _ _ (let n = hash_length c.before.before.args.hashes.now c.before.before.args.k c.before.before.requires.1 in omega arith)
+returns c = c.loop-j.invariant.1 ∙ placing_end _ _ _ _ (let n = hash_length c.args.hashes.now c.args.k c.requires.1 in omega arith)
 
 pub put_hash_spec : {M : Type 1} → statement M
 put_hash_spec =

@@ -4,7 +4,6 @@ use mathlib.Core.Path.{sym, ◌∙◌}
 use lib.ListN.{get_or}
 use native.Mathlib.Omega.{arith}
 use borrow.Author.Rules.{rules}
-use borrow.Author.Tests.{not-true, not-false}
 use Rattle.paper.proofs.Scans.{Passed, all_start, all_next, all_end, all_no}
 use Rattle.tables.specs.Tables.{Tables, tables}
 use Rattle.walk.specs.MarkLaws.{node_chain}
@@ -13,29 +12,29 @@ use Rattle.chained.specs.ChainedLaws.{all_linked}
 use Rattle.chained.proofs.is_chained.Statement.{statement}
 use Rattle.chained.proofs.is_chained.Tie as tie
 
-abbrev invariant_loop : tie.invariant-loop
+abbrev invariant_loop : tie.invariant-loop-k
 invariant_loop hashes nodes targets nexts clocks counts n k₀ k = Passed (linked nodes targets nexts) (get_or counts 0 0) k
 
-abbrev decreases_loop : tie.decreases-loop
+abbrev decreases_loop : tie.decreases-loop-k
 decreases_loop hashes nodes targets nexts clocks counts n k₀ k = get_or counts 0 0 - k
 
 -- what is lent
 abbrev T : tie.Start invariant_loop decreases_loop → Tables
 T s = tables s.args.hashes.now s.args.nodes.now s.args.targets.now s.args.nexts.now s.args.clocks.now s.args.counts.now
 
-is_linked_requires : tie.Need-is-linked-requires invariant_loop decreases_loop
-is_linked_requires c κs = let s = c.before.before.before.before.before.before.before.before.before in let l = s.requires.sound.lengths in let q = s.requires.sound.counts.changes_fit in let k = c.loop-test.true in
-    (node_chain (T s) s.requires.sound c.before.loop.k k, l.nexts_same, omega arith)
+is_linked_requires : tie.Need-is_linked-requires invariant_loop decreases_loop
+is_linked_requires c κs = let s = c.before.before.before.before.before.before.before.before.before in let l = s.requires.sound.lengths in let q = s.requires.sound.counts.changes_fit in let k = c.loop-k-test.true in
+    (node_chain (T s) s.requires.sound c.loop-k.k k, l.nexts_same, omega arith)
 
-returns : tie.Need-returns invariant_loop decreases_loop
+returns : tie.Need-returns-then-not-is_linked invariant_loop decreases_loop
 returns c = let s = c.before.before.before.before.before.before.before.before.before.before.before in
-    all_no _ _ _ c.before.before.loop-test.true (sym c.before.is-linked.ensures ∙ not-true _ c.if1.true) ∙ all_linked (T s) s.requires
+    all_no _ _ _ c.loop-k-test.true (sym c.is_linked.ensures ∙ c.if-not-is_linked.true) ∙ all_linked (T s) s.requires
 
-loop_again : tie.Need-loop-preserved invariant_loop decreases_loop
-loop_again c = all_next _ _ c.before.before.before.loop.invariant c.before.before.loop-test.true (sym c.before.is-linked.ensures ∙ not-false _ c.if1.false)
+loop_again : tie.Need-loop-k-preserved invariant_loop decreases_loop
+loop_again c = all_next _ _ c.loop-k.invariant c.loop-k-test.true (sym c.is_linked.ensures ∙ c.if-not-is_linked.false)
 
-returns_2 : tie.Need-returns-2 invariant_loop decreases_loop
-returns_2 c = let s = c.before.before.before.before.before.before.before.before.before in all_end _ _ c.before.loop.invariant c.loop-test.false ∙ all_linked (T s) s.requires
+returns_2 : tie.Need-returns invariant_loop decreases_loop
+returns_2 c = let s = c.before.before.before.before.before.before.before.before.before in all_end _ _ c.loop-k.invariant c.loop-k-test.false ∙ all_linked (T s) s.requires
 
 pub is_chained_spec : {M : Type 1} → statement M
 is_chained_spec =

@@ -7,14 +7,14 @@ use Rattle.chained.specs.ChainedLaws.{first_linked, later_linked}
 use Rattle.chained.proofs.is_linked.Statement.{statement}
 use Rattle.chained.proofs.is_linked.Tie as tie
 
-returns : tie.Need-returns
-returns c = let s = c.before.before.before.before.before in first_linked s.args.nodes.now s.args.k s.args.targets.now s.args.nexts.now c.if1.true
+returns : tie.Need-returns-then-nodes-k-le1
+returns c = let s = c.before.before.before.before.before in first_linked s.args.nodes.now s.args.k s.args.targets.now s.args.nexts.now c.if-nodes-k-le1.true
 
-cast_first : tie.Need-overflow-cast-first
-cast_first c = omega (arith, c.shared-slice-known5.given (6 * c.before.before.before.before.before.before.args.k + 4))
+cast_first : tie.Need-overflow_cast-first
+cast_first c = omega (arith, c.shared_slice_known-5-1.given (6 * c.args.k + 4))
 
-returns_2 : tie.Need-returns-2
-returns_2 c = let s = c.before.before.before.before.before.before.before in c.names-preceding.ensures ∙ later_linked s.args.nodes.now s.args.k s.args.targets.now s.args.nexts.now c.before.before.if1.false
+returns_2 : tie.Need-returns
+returns_2 c = let s = c.before.before.before.before.before.before.before in c.names_preceding.ensures ∙ later_linked s.args.nodes.now s.args.k s.args.targets.now s.args.nexts.now c.if-nodes-k-le1.false
 
 pub is_linked_spec : {M : Type 1} → statement M
 is_linked_spec =

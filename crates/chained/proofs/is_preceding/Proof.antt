@@ -6,20 +6,20 @@ use Rattle.chained.specs.ChainedLaws.{other_actor, same_actor}
 use Rattle.chained.proofs.is_preceding.Statement.{statement}
 use Rattle.chained.proofs.is_preceding.Tie as tie
 
-returns : tie.Need-returns
-returns c = other_actor c.before.before.before.args.nodes.now c.before.before.before.args.k c.before.before.before.args.j c.if1.true
+returns : tie.Need-returns-then-nodes-j
+returns c = other_actor c.args.nodes.now c.args.k c.args.j c.if-nodes-j.true
 
-cast_result : tie.Need-overflow-cast-result
-cast_result c = omega (arith, c.shared-slice-known3.given (6 * c.before.before.before.before.args.k + 1))
+cast_result : tie.Need-overflow_cast-result
+cast_result c = omega (arith, c.shared_slice_known-3-1.given (6 * c.args.k + 1))
 
-cast_result_2 : tie.Need-overflow-cast-result-2
-cast_result_2 c = omega (arith, c.shared-slice-known4.given (6 * c.before.before.before.before.before.args.j + 1))
+cast_result_2 : tie.Need-overflow_cast-result-2
+cast_result_2 c = omega (arith, c.shared_slice_known-4-1.given (6 * c.args.j + 1))
 
-add_result_3 : tie.Need-overflow-add-result-3
-add_result_3 c = omega (arith, c.shared-slice-known4.given (6 * c.before.before.before.before.before.args.j + 1))
+add_result_3 : tie.Need-overflow_add-result-3
+add_result_3 c = omega (arith, c.shared_slice_known-4-1.given (6 * c.args.j + 1))
 
-returns_2 : tie.Need-returns-2
-returns_2 c = same_actor c.before.before.before.before.before.args.nodes.now c.before.before.before.before.before.args.k c.before.before.before.before.before.args.j c.before.before.if1.false
+returns_2 : tie.Need-returns
+returns_2 c = same_actor c.args.nodes.now c.args.k c.args.j c.if-nodes-j.false
 
 pub is_preceding_spec : {M : Type 1} → statement M
 is_preceding_spec =

@@ -6,12 +6,12 @@ use Rattle.current_heads.specs.CurrentLaws.{no_head, head_hash}
 use Rattle.current_heads.proofs.head_is.Statement.{statement}
 use Rattle.current_heads.proofs.head_is.Tie as tie
 
-returns : tie.Need-returns
-returns c = let s = c.before.before.before.before.before in no_head s.args.hashes.now s.args.nodes.now s.args.k c.if1.true s.args.hash.now
+returns : tie.Need-returns-then-nodes-k-ne1
+returns c = let s = c.before.before.before.before.before in no_head s.args.hashes.now s.args.nodes.now s.args.k c.if-nodes-k-ne1.true s.args.hash.now
 
-returns_2 : tie.Need-returns-2
+returns_2 : tie.Need-returns
 unfolding same_hash
-returns_2 c = let s = c.before.before.before.before.before.before in c.same_at.ensures ∙ head_hash s.args.hashes.now s.args.nodes.now s.args.k c.before.if1.false s.args.hash.now
+returns_2 c = let s = c.before.before.before.before.before.before in c.same_at.ensures ∙ head_hash s.args.hashes.now s.args.nodes.now s.args.k c.if-nodes-k-ne1.false s.args.hash.now
 
 pub head_is_spec : {M : Type 1} → statement M
 head_is_spec =

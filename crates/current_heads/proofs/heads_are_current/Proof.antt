@@ -1,7 +1,6 @@
 -- Each listed hash is a head's, and each head's is listed; no as soon as one fails. Assumes nothing.
 use mathlib.Core.Path.{sym, ◌∙◌}
 use borrow.Author.Rules.{rules}
-use borrow.Author.Tests.{not-true, not-false}
 use Rattle.tables.specs.Tables.{Tables, tables, graph}
 use Rattle.current_heads.specs.CurrentLaws.{listed_wrong, heads_decide, told_malformed, told_yes, told_no}
 use Rattle.current_heads.proofs.heads_are_current.Statement.{statement}
@@ -10,20 +9,20 @@ use Rattle.current_heads.proofs.heads_are_current.Tie as tie
 abbrev T : tie.Start → Tables
 T s = tables s.args.hashes.now s.args.nodes.now s.args.targets.now s.args.nexts.now s.args.clocks.now s.args.counts.now
 
-returns : tie.Need-returns
-returns c = sym (told_malformed (graph (T c.before.before.before.before.before.before.before.before)) _ c.if1.true)
+returns : tie.Need-returns-then-list-ne0
+returns c = sym (told_malformed (graph (T c.before.before.before.before.before.before.before.before)) _ c.if-list-ne0.true)
 
-returns_2 : tie.Need-returns-2
+returns_2 : tie.Need-returns-then-not-listed_are_heads
 returns_2 c = let s = c.before.before.before.before.before.before.before.before.before.before.before in
-    sym (told_no (graph (T s)) _ c.before.before.before.if1.false (listed_wrong (T s) s.requires _ (sym c.before.listed-are-heads.ensures ∙ not-true _ c.if2.true)))
+    sym (told_no (graph (T s)) _ c.if-list-ne0.false (listed_wrong (T s) s.requires _ (sym c.listed_are_heads.ensures ∙ c.if-not-listed_are_heads.true)))
 
-returns_3 : tie.Need-returns-3
+returns_3 : tie.Need-returns-then-not-heads_are_listed
 returns_3 c = let s = c.before.before.before.before.before.before.before.before.before.before.before.before.before in
-    sym (told_no (graph (T s)) _ c.before.before.before.before.before.if1.false (heads_decide (T s) s.requires _ (sym c.before.before.before.listed-are-heads.ensures ∙ not-false _ c.before.before.if2.false) ∙ sym c.before.heads-are-listed.ensures ∙ not-true _ c.if3.true))
+    sym (told_no (graph (T s)) _ c.if-list-ne0.false (heads_decide (T s) s.requires _ (sym c.listed_are_heads.ensures ∙ c.if-not-listed_are_heads.false) ∙ sym c.heads_are_listed.ensures ∙ c.if-not-heads_are_listed.true))
 
-returns_4 : tie.Need-returns-4
+returns_4 : tie.Need-returns
 returns_4 c = let s = c.before.before.before.before.before.before.before.before.before.before.before.before.before in
-    sym (told_yes (graph (T s)) _ c.before.before.before.before.before.if1.false (heads_decide (T s) s.requires _ (sym c.before.before.before.listed-are-heads.ensures ∙ not-false _ c.before.before.if2.false) ∙ sym c.before.heads-are-listed.ensures ∙ not-false _ c.if3.false))
+    sym (told_yes (graph (T s)) _ c.if-list-ne0.false (heads_decide (T s) s.requires _ (sym c.listed_are_heads.ensures ∙ c.if-not-listed_are_heads.false) ∙ sym c.heads_are_listed.ensures ∙ c.if-not-heads_are_listed.false))
 
 pub heads_are_current_spec : {M : Type 1} → statement M
 heads_are_current_spec =

@@ -6,16 +6,23 @@ use borrow.Author.Rules.{rules}
 use Rattle.heads.proofs.node_number.Statement.{statement}
 use Rattle.heads.proofs.node_number.Tie as tie
 
-returns : tie.Need-returns
-returns c = number_none _ _ _ (sym c.before.before.find.ensures ∙ c.enum_told.given.1)
+returns : tie.Need-returns-in_default
+returns c = number_none _ _ _ (sym c.find.ensures ∙ c.in_default.is)
 
-cast_result_2 : tie.Need-overflow-cast-result-2
-cast_result_2 c = let l = number_low _ _ _ _ (sym c.before.before.before.find.ensures ∙ c.before.k.given.1) in let f = c.before.before.before.before.before.before.requires.1 in omega arith
+cast_result_2 : tie.Need-overflow_cast-result-2
+cast_result_2 c = let l = number_low _ _ _ _ (sym c.find.ensures ∙ c.in-At.is) in let f = c.requires.1 in omega arith
 
-returns_2 : tie.Need-returns-2
-returns_2 c = number_at _ _ _ _ (sym c.before.before.before.find.ensures ∙ c.before.k.given.1)
+returns_2 : tie.Need-returns
+returns_2 c = number_at _ _ _ _ (sym c.find.ensures ∙ c.in-At.is)
 
 pub node_number_spec : {M : Type 1} → statement M
 node_number_spec =
     tie.close
-    (tie.spec (λ c κs. search rules) (λ c. search rules) (λ c. search rules) (λ c. search rules) returns cast_result_2 returns_2)
+    (tie.spec
+    (λ c κs. search rules)
+    (λ c. search rules)
+    (λ c. search rules)
+    (λ c. search rules)
+    returns
+    cast_result_2
+    returns_2)

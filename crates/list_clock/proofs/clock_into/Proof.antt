@@ -10,10 +10,16 @@ use Rattle.list_clock.proofs.clock_into.Tie as tie
 abbrev T : tie.Start → Tables
 T s = tables s.args.hashes.now s.args.nodes.now s.args.targets.now s.args.nexts.now s.args.clocks.now s.args.counts.now
 
-returns : tie.Need-returns
+returns : tie.Need-returns-then-list-eq0
 returns c =
     let s = c.before.before.before.before.before.before.before.before.before.before.before.before.before in
-    c.before.before.clear.ensures ∙ empty_clock (graph (T s)) (valid_graph (T s) s.requires.0.sound) s.args.list.now c.before.before.before.before.if1.true _
+    c.clear.ensures ∙ empty_clock (graph (T s)) (valid_graph (T s) s.requires.0.sound) s.args.list.now c.if-list-eq0.true _
 
 pub clock_into_spec : {M : Type 1} → statement M
-clock_into_spec = tie.close (tie.spec (λ c κs. search rules) (λ c. search rules) returns (λ c κs. search rules) (λ c. search rules) (λ c. search rules))
+clock_into_spec = tie.close (tie.spec
+    (λ c κs. search rules)
+    (λ c. search rules)
+    returns
+    (λ c κs. search rules)
+    (λ c. search rules)
+    (λ c. search rules))

@@ -14,49 +14,49 @@ use Rattle.answer_buffer.specs.Picking.{pick_room, pick_put, pick_pass}
 use Rattle.list_clock.proofs.collect.Statement.{statement}
 use Rattle.list_clock.proofs.collect.Tie as tie
 
-abbrev invariant_loop : tie.invariant-loop
+abbrev invariant_loop : tie.invariant-loop-k
 invariant_loop marks n out₀ c₀ k₀ out c k = (k ≤ n) × Holds (pick (marked marks) k) out₀ out c
 
-abbrev decreases_loop : tie.decreases-loop
+abbrev decreases_loop : tie.decreases-loop-k
 decreases_loop marks n out₀ c₀ k₀ out c k = n - k
 
 fits : (s : tie.Start invariant_loop decreases_loop) → tally (marked s.args.marks.now) s.args.n ≤ length s.args.out.now
 fits s = let m = tally_most (marked s.args.marks.now) s.args.n in let p = s.requires.1 in omega arith
 
 -- there is room for one more
-one : (c : tie.Then1 invariant_loop decreases_loop) → c.before.before.before.loop.c < length c.before.before.before.loop.out
-one c = pick_room (marked c.before.before.before.before.args.marks.now) _ c.before.before.before.loop.invariant.1 (fits c.before.before.before.before) c.before.before.loop-test.true (lt-ltb _ _ c.if1.true)
+one : (c : tie.Then-marks-k-gt0 invariant_loop decreases_loop) → c.loop-k.c < length c.loop-k.out
+one c = pick_room (marked c.args.marks.now) _ c.loop-k.invariant.1 (fits c.before.before.before.before) c.loop-k-test.true (lt-ltb _ _ c.if-marks-k-gt0.true)
 
-loop_holds : tie.Need-loop-init invariant_loop decreases_loop
+loop_holds : tie.Need-loop-k-init invariant_loop decreases_loop
 unfolding pick
 loop_holds c = (search rules, holds_start _)
 
-cast_out : tie.Need-overflow-cast-out invariant_loop decreases_loop
-cast_out c = let a = c.before.before.before.before.requires.2 in let b = c.before.before.loop-test.true in omega arith
+cast_out : tie.Need-overflow_cast-out invariant_loop decreases_loop
+cast_out c = let a = c.requires.2 in let b = c.loop-k-test.true in omega arith
 
-mul_out : tie.Need-overflow-mul-out invariant_loop decreases_loop
+mul_out : tie.Need-offset_bounds-out-c invariant_loop decreases_loop
 mul_out c = let r = one c in omega arith
 
-slice_write_out : tie.Need-slice-write-out invariant_loop decreases_loop
+slice_write_out : tie.Need-bounds-out-c invariant_loop decreases_loop
 slice_write_out c = one c
 
-add_c : tie.Need-overflow-add-c invariant_loop decreases_loop
+add_c : tie.Need-overflow_add-c invariant_loop decreases_loop
 add_c c = let r = one c in omega arith
 
-loop_again : tie.Need-loop-preserved invariant_loop decreases_loop
-loop_again c = let s = c.before.before.before.before in let l = c.before.before.before.loop in let p = marked s.args.marks.now in (
+loop_again : tie.Need-loop-k-preserved invariant_loop decreases_loop
+loop_again c = let s = c.before.before.before.before in let l = c.loop-k in let p = marked s.args.marks.now in (
   search rules,
   ⊎_elim
-      (λ w. rw (w.1, w.2) (pick_put p _ l.invariant.1 (fits s) c.before.before.loop-test.true (lt-ltb _ _ w.0.taken)))
-      (λ w. rw (w.1, w.2) (pick_pass p s.args.n l.invariant.1 (le-ltb _ _ w.0.left)))
-      c.if1.branch,
+      (λ w. rw (w.out-is, w.c-is) (pick_put p _ l.invariant.1 (fits s) c.loop-k-test.true (lt-ltb _ _ w.if-marks-k-gt0.true)))
+      (λ w. rw (w.out-is, w.c-is) (pick_pass p s.args.n l.invariant.1 (le-ltb _ _ w.if-marks-k-gt0.false)))
+      c.if-marks-k-gt0.branch-raw,
 )
 
-same_length : tie.Need-same-length invariant_loop decreases_loop
-same_length c = c.before.loop.invariant.1.kept
+same_length : tie.Need-shape_of-out invariant_loop decreases_loop
+same_length c = c.loop-k.invariant.1.kept
 
 returns : tie.Need-returns invariant_loop decreases_loop
-returns c = let e : c.before.loop.k ≡ c.before.before.args.n = omega arith in holds_as c.before.loop.invariant.1 _ (ap (pick (marked c.before.before.args.marks.now)) e)
+returns c = let e : c.loop-k.k ≡ c.args.n = omega arith in holds_as c.loop-k.invariant.1 _ (ap (pick (marked c.args.marks.now)) e)
 
 pub collect_spec : {M : Type 1} → statement M
 collect_spec =

@@ -14,7 +14,7 @@ T s = tables s.args.hashes.now s.args.nodes.now s.args.targets.now s.args.nexts.
 
 returns : tie.Need-returns
 returns c = let s = c.before.before.before.before.before.before.before.before.before.before.before.before.before in let r = (room (T s) s.requires.0).few_actors in let l = s.requires.1 in
-    entries_of (T s) s.args.list.now s.args.clock.now (actors (T s)) refl (omega arith) c.before.before.clock-into.ensures (simp (length-take, length-drop) (omega arith))
+    entries_of (T s) s.args.list.now s.args.clock.now (actors (T s)) refl (omega arith) c.clock_into.ensures (simp (length-take, length-drop) (omega arith))
 
 pub list_clock_spec : {M : Type 1} → statement M
 list_clock_spec =

@@ -15,10 +15,10 @@ use Rattle.list_clock.specs.KnownLaws.{marks_start, marks_found, marks_unknown}
 use Rattle.list_clock.proofs.mark_known.Statement.{statement}
 use Rattle.list_clock.proofs.mark_known.Tie as tie
 
-abbrev invariant_loop : tie.invariant-loop
+abbrev invariant_loop : tie.invariant-loop-i
 invariant_loop hashes nodes targets nexts clocks counts list marks₀ n m i₀ marks i = (i ≤ m) × KnownMarks (graph (tables hashes nodes targets nexts clocks counts)) list i marks₀ marks
 
-abbrev decreases_loop : tie.decreases-loop
+abbrev decreases_loop : tie.decreases-loop-i
 decreases_loop hashes nodes targets nexts clocks counts list marks₀ n m i₀ marks i = m - i
 
 -- what is lent
@@ -26,29 +26,29 @@ abbrev T : tie.Start invariant_loop decreases_loop → Tables
 T s = tables s.args.hashes.now s.args.nodes.now s.args.targets.now s.args.nexts.now s.args.clocks.now s.args.counts.now
 
 -- the call looks for hash i of the list
-told : (c : tie.After-find invariant_loop decreases_loop) → c.find.result ≡ find_hash (T c.before.before.before.before.before.before.before.before.before.before.before.before.before).hashes (changes (T c.before.before.before.before.before.before.before.before.before.before.before.before.before)) (hash_at c.before.before.before.before.before.before.before.before.before.before.before.before.before.args.list.now c.before.before.before.loop.i)
-told c = rw hash_part at c.find.ensures
+told : (c : tie.After-find-r invariant_loop decreases_loop) → c.find-r.result ≡ find_hash (T c.before.before.before.before.before.before.before.before.before.before.before.before.before).hashes (changes (T c.before.before.before.before.before.before.before.before.before.before.before.before.before)) (hash_at c.args.list.now c.loop-i.i)
+told c = rw hash_part at c.find-r.ensures
 
-loop_holds : tie.Need-loop-init invariant_loop decreases_loop
+loop_holds : tie.Need-loop-i-init invariant_loop decreases_loop
 loop_holds c = (search rules, marks_start _ _ _)
 
-slice_write_marks : tie.Need-slice-write-marks invariant_loop decreases_loop
-slice_write_marks c = let s = c.before.before.before.before.before.before.before.before.before.before.before.before.before.before.before.before in let l = node_low (T s) _ _ (sym (told c.before.before.before) ∙ c.before.r.given.1) in let k = c.before.before.before.before.before.before.loop.invariant.1.long in let b = s.requires.1 in omega arith
+slice_write_marks : tie.Need-bounds-marks-k invariant_loop decreases_loop
+slice_write_marks c = let s = c.before.before.before.before.before.before.before.before.before.before.before.before.before.before in let l = node_low (T s) _ _ (sym (told c.before) ∙ c.in-At.is) in let k = c.loop-i.invariant.1.long in let b = s.requires.1 in omega arith
 
-loop_again : tie.Need-loop-preserved invariant_loop decreases_loop
-loop_again c = let s = c.before.before.before.before.before.before.before.before.before.before.before.before.before.before in let l = c.before.before.before.before.loop in (
+loop_again : tie.Need-loop-i-preserved invariant_loop decreases_loop
+loop_again c = let s = c.before.before.before.before.before.before.before.before.before.before.before.before.before.before in let l = c.loop-i in (
   search rules,
   ⊎_elim
-      (λ w. rw w.3 (let e = sym (told c.before) ∙ w.1.given.1 in let low = node_low (T s) _ _ e in marks_found l.invariant.1 _ (node_at (T s) _ _ e) low (let b = s.requires.1 in omega arith)))
-      (λ w. rw w.2 (marks_unknown l.invariant.1 (node_none (T s) _ (sym (told c.before) ∙ w.1.given.1))))
-      c.match.branch,
+      (λ w. rw w.marks-is (let e = sym (told c.before) ∙ w.in-At.is in let low = node_low (T s) _ _ e in marks_found l.invariant.1 _ (node_at (T s) _ _ e) low (let b = s.requires.1 in omega arith)))
+      (λ w. rw w.marks-is (marks_unknown l.invariant.1 (node_none (T s) _ (sym (told c.before) ∙ w.in_default.is))))
+      c.match-r.branch-raw,
 )
 
-same_length : tie.Need-same-length invariant_loop decreases_loop
-same_length c = c.before.loop.invariant.1.long
+same_length : tie.Need-shape_of-marks invariant_loop decreases_loop
+same_length c = c.loop-i.invariant.1.long
 
 returns : tie.Need-returns invariant_loop decreases_loop
-returns c = let e : c.before.loop.i ≡ length c.before.before.before.before.before.before.before.before.before.before.before.args.list.now / 32 = omega arith in rw (← e) c.before.loop.invariant.1
+returns c = let e : c.loop-i.i ≡ length c.args.list.now / 32 = omega arith in rw (← e) c.loop-i.invariant.1
 
 pub mark_known_spec : {M : Type 1} → statement M
 mark_known_spec =

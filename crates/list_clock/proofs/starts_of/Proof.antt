@@ -10,12 +10,12 @@ use Rattle.list_clock.proofs.starts_of.Tie as tie
 abbrev T : tie.Start → Tables
 T s = tables s.args.hashes.now s.args.nodes.now s.args.targets.now s.args.nexts.now s.args.clocks.now s.args.counts.now
 
-same_length : tie.Need-same-length
-same_length c = c.before.before.collect.ensures.kept
+same_length : tie.Need-shape_of-out
+same_length c = c.collect.ensures.kept
 
 returns : tie.Need-returns
-returns c = let s = c.before.before.before.before.before.before.before.before.before.before.before.before.before.before.before.before.before in let e = marked_known (graph (T s)) s.args.list.now 4096 _ c.before.before.before.before.before.before.mark-known.ensures in
-    holds_as c.before.before.collect.ensures _ (pick_ext _ _ (changes (T s)) (λ k l. e k))
+returns c = let s = c.before.before.before.before.before.before.before.before.before.before.before.before.before.before.before.before.before in let e = marked_known (graph (T s)) s.args.list.now 4096 _ c.mark_known.ensures in
+    holds_as c.collect.ensures _ (pick_ext _ _ (changes (T s)) (λ k l. e k))
 
 pub starts_of_spec : {M : Type 1} → statement M
 starts_of_spec =

@@ -14,17 +14,17 @@ use Rattle.list_clock.proofs.walk_into.Tie as tie
 abbrev T : tie.Start → Tables
 T s = tables s.args.hashes.now s.args.nodes.now s.args.targets.now s.args.nexts.now s.args.clocks.now s.args.counts.now
 
-few : (c : tie.After-starts-of) → c.starts-of.result ≤ 4096
-few c = let s = c.before.before.before.before.before.before.before.before.before.before in let a = starts_few _ _ c.starts-of.ensures in let b = (room (T s) s.requires.0).few in omega arith
+few : (c : tie.After-starts_of-c) → c.starts_of-c.result ≤ 4096
+few c = let s = c.before.before.before.before.before.before.before.before.before.before in let a = starts_few _ _ c.starts_of-c.ensures in let b = (room (T s) s.requires.0).few in omega arith
 
-part_clock_of_end : tie.Need-slice-bounds-clock-of-end
-part_clock_of_end c = let a = few c.before.before in let k = c.before.before.starts-of.ensures.kept in let r = length-replicate {A = ℕ} 4096 0 in omega arith
+part_clock_of_end : tie.Need-slice_bounds-clock_of-end
+part_clock_of_end c = let a = few c.before in let k = c.starts_of-c.ensures.kept in let r = length-replicate {A = ℕ} 4096 0 in omega arith
 
-clock_of_requires : tie.Need-clock-of-requires
-clock_of_requires c κs = (c.before.before.before.before.before.before.before.before.before.before.before.before.before.before.requires.0, record { known = starts_low _ _ c.before.before.before.before.starts-of.ensures; enough = c.before.before.before.before.before.before.before.before.before.before.before.before.before.before.requires.1.0; narrow = c.before.before.before.before.before.before.before.before.before.before.before.before.before.before.requires.1.1 })
+clock_of_requires : tie.Need-clock_of-requires
+clock_of_requires c κs = (c.requires.0, record { known = starts_low _ _ c.starts_of-c.ensures; enough = c.requires.1.0; narrow = c.requires.1.1 })
 
 returns : tie.Need-returns
-returns c = let s = c.before.before.before.before.before.before.before.before.before.before.before.before.before.before.before.before.before in c.before.before.clock-of.ensures ∙ starts_clock (graph (T s)) (valid_graph (T s) s.requires.0.sound) s.args.list.now c.before.before.before.before.before.before.before.starts-of.ensures _
+returns c = let s = c.before.before.before.before.before.before.before.before.before.before.before.before.before.before.before.before in c.clock_of.ensures ∙ starts_clock (graph (T s)) (valid_graph (T s) s.requires.0.sound) s.args.list.now c.starts_of-c.ensures _
 
 pub walk_into_spec : {M : Type 1} → statement M
 walk_into_spec =

@@ -23,31 +23,31 @@ T s = tables s.args.hashes.now s.args.nodes.now s.args.targets.now s.args.nexts.
 abbrev K : tie.Start → ℕ
 K s = change_at (graph (T s)) s.args.actor s.args.seq
 
-told : (c : tie.After-change-at) → c.change-at.result ≡ found_as (changes (T c.before.before.before.before.before.before.before.before.before)) (K c.before.before.before.before.before.before.before.before.before)
+told : (c : tie.After-change_at) → c.change_at.result ≡ found_as (changes (T c.before.before.before.before.before.before.before.before.before)) (K c.before.before.before.before.before.before.before.before.before)
 unfolding change_at
-told c = c.change-at.ensures
+told c = c.change_at.ensures
 
-found : (c : tie.After-k) → found_as (changes (T c.before.before.before.before.before.before.before.before.before.before.before)) (K c.before.before.before.before.before.before.before.before.before.before.before) ≡ At c.k.given.0.0
-found c = sym (told c.before.before) ∙ c.k.given.1
+found : (c : tie.In-At) → found_as (changes (T c.before.before.before.before.before.before.before.before.before.before)) (K c.before.before.before.before.before.before.before.before.before.before) ≡ At c.in-At.k
+found c = sym (told c.before) ∙ c.in-At.is
 
 -- the change is k, which is known
-is : (c : tie.After-k) → K c.before.before.before.before.before.before.before.before.before.before.before ≡ c.k.given.0.0
+is : (c : tie.In-At) → K c.before.before.before.before.before.before.before.before.before.before ≡ c.in-At.k
 is c = at_node _ _ _ (found c)
 
-low : (c : tie.After-k) → K c.before.before.before.before.before.before.before.before.before.before.before < changes (T c.before.before.before.before.before.before.before.before.before.before.before)
+low : (c : tie.In-At) → K c.before.before.before.before.before.before.before.before.before.before < changes (T c.before.before.before.before.before.before.before.before.before.before)
 low c = at_low _ _ _ (found c)
 
-returns : tie.Need-returns
-returns c = let h = unknown_high _ _ (sym (told c.before.before) ∙ c.enum_told.given.1) in
-    (sym (node_refused (graph (T c.before.before.before.before.before.before.before.before.before.before.before)) (K c.before.before.before.before.before.before.before.before.before.before.before) _ _ h), sym (node_unfilled (graph (T c.before.before.before.before.before.before.before.before.before.before.before)) (K c.before.before.before.before.before.before.before.before.before.before.before) _ h))
+returns : tie.Need-returns-in_default
+returns c = let h = unknown_high _ _ (sym (told c.before) ∙ c.in_default.is) in
+    (sym (node_refused (graph (T c.before.before.before.before.before.before.before.before.before.before)) (K c.before.before.before.before.before.before.before.before.before.before) _ _ h), sym (node_unfilled (graph (T c.before.before.before.before.before.before.before.before.before.before)) (K c.before.before.before.before.before.before.before.before.before.before) _ h))
 
-hash_into_requires : tie.Need-hash-into-requires
-hash_into_requires c κs = let e = is c.before.before in let l = low c.before.before in omega (arith, (room (T c.before.before.before.before.before.before.before.before.before.before.before.before.before) c.before.before.before.before.before.before.before.before.before.before.before.before.before.requires).hashes_in)
+hash_into_requires : tie.Need-hash_into-requires
+hash_into_requires c κs = let e = is c.before in let l = low c.before in omega (arith, (room (T c.before.before.before.before.before.before.before.before.before.before.before) c.requires).hashes_in)
 
-returns_2 : tie.Need-returns-2
-returns_2 c = let s = c.before.before.before.before.before.before.before.before.before.before.before.before.before.before.before.before in (
-  c.before.before.hash-into.ensures.0 ∙ ap (λ (k : ℕ). list_answer (hash_at s.args.hashes.now k) (length s.args.out.now)) (sym (is c.before.before.before.before.before)) ∙ sym (node_told (graph (T s)) (K s) _ _ (low c.before.before.before.before.before)),
-  c.before.before.hash-into.ensures.1 ∙ ap (λ (k : ℕ). filled (hash_at s.args.hashes.now k) s.args.out.now) (sym (is c.before.before.before.before.before)) ∙ sym (node_filled (graph (T s)) (K s) _ (low c.before.before.before.before.before)),
+returns_2 : tie.Need-returns
+returns_2 c = let s = c.before.before.before.before.before.before.before.before.before.before.before.before.before.before in (
+  c.hash_into.ensures.0 ∙ ap (λ (k : ℕ). list_answer (hash_at s.args.hashes.now k) (length s.args.out.now)) (sym (is c.before.before.before.before)) ∙ sym (node_told (graph (T s)) (K s) _ _ (low c.before.before.before.before)),
+  c.hash_into.ensures.1 ∙ ap (λ (k : ℕ). filled (hash_at s.args.hashes.now k) s.args.out.now) (sym (is c.before.before.before.before)) ∙ sym (node_filled (graph (T s)) (K s) _ (low c.before.before.before.before)),
 )
 
 pub get_hash_for_actor_seq_spec : {M : Type 1} → statement M

@@ -10,14 +10,14 @@ use Rattle.lookups.proofs.has_change.Tie as tie
 abbrev T : tie.Start → Tables
 T s = tables s.args.hashes.now s.args.nodes.now s.args.targets.now s.args.nexts.now s.args.clocks.now s.args.counts.now
 
-returns : tie.Need-returns
-returns c = sym (has_bad (graph (T c.before.before.before.before.before.before.before.before)) _ c.if1.true)
+returns : tie.Need-returns-then-hash-ne32
+returns c = sym (has_bad (graph (T c.before.before.before.before.before.before.before.before)) _ c.if-hash-ne32.true)
 
-returns_2 : tie.Need-returns-2
-returns_2 c = sym (has_not (graph (T c.before.before.before.before.before.before.before.before.before.before.before.before)) _ c.before.before.before.before.if1.false (node_none (T c.before.before.before.before.before.before.before.before.before.before.before.before) _ (sym c.before.before.find.ensures ∙ c.enum_told.given.1)))
+returns_2 : tie.Need-returns-in_default
+returns_2 c = sym (has_not (graph (T c.before.before.before.before.before.before.before.before.before.before.before)) _ c.if-hash-ne32.false (node_none (T c.before.before.before.before.before.before.before.before.before.before.before) _ (sym c.find.ensures ∙ c.in_default.is)))
 
-returns_3 : tie.Need-returns-3
-returns_3 c = let e = sym c.before.before.before.find.ensures ∙ c.before.k.given.1 in sym (has_it (graph (T c.before.before.before.before.before.before.before.before.before.before.before.before.before)) _ c.before.before.before.before.before.if1.false _ (node_at (T c.before.before.before.before.before.before.before.before.before.before.before.before.before) _ _ e) (node_low (T c.before.before.before.before.before.before.before.before.before.before.before.before.before) _ _ e))
+returns_3 : tie.Need-returns
+returns_3 c = let e = sym c.find.ensures ∙ c.in-At.is in sym (has_it (graph (T c.before.before.before.before.before.before.before.before.before.before.before)) _ c.if-hash-ne32.false _ (node_at (T c.before.before.before.before.before.before.before.before.before.before.before) _ _ e) (node_low (T c.before.before.before.before.before.before.before.before.before.before.before) _ _ e))
 
 pub has_change_spec : {M : Type 1} → statement M
 has_change_spec =

@@ -9,13 +9,19 @@ use Rattle.lookups.proofs.index_to_hash.Tie as tie
 abbrev T : tie.Start → Tables
 T s = tables s.args.hashes.now s.args.nodes.now s.args.targets.now s.args.nexts.now s.args.clocks.now s.args.counts.now
 
-returns : tie.Need-returns
-returns c = (sym (node_refused (graph (T c.before.before.before.before.before.before.before.before.before)) _ _ _ c.if1.true), sym (node_unfilled (graph (T c.before.before.before.before.before.before.before.before.before)) _ _ c.if1.true))
+returns : tie.Need-returns-then-counts-k
+returns c = (sym (node_refused (graph (T c.before.before.before.before.before.before.before.before.before)) _ _ _ c.if-counts-k.true), sym (node_unfilled (graph (T c.before.before.before.before.before.before.before.before.before)) _ _ c.if-counts-k.true))
 
-returns_2 : tie.Need-returns-2
-returns_2 c = (c.before.before.hash-into.ensures.0 ∙ sym (node_told (graph (T c.before.before.before.before.before.before.before.before.before.before.before.before.before)) _ _ _ c.before.before.before.before.if1.false), c.before.before.hash-into.ensures.1 ∙ sym (node_filled (graph (T c.before.before.before.before.before.before.before.before.before.before.before.before.before)) _ _ c.before.before.before.before.if1.false))
+returns_2 : tie.Need-returns
+returns_2 c = (c.hash_into.ensures.0 ∙ sym (node_told (graph (T c.before.before.before.before.before.before.before.before.before.before.before.before.before)) _ _ _ c.if-counts-k.false), c.hash_into.ensures.1 ∙ sym (node_filled (graph (T c.before.before.before.before.before.before.before.before.before.before.before.before.before)) _ _ c.if-counts-k.false))
 
 pub index_to_hash_spec : {M : Type 1} → statement M
 index_to_hash_spec =
     tie.close
-    (tie.spec (λ c. search rules) (λ c. search rules) returns (λ c κs. search rules) (λ c. search rules) returns_2)
+    (tie.spec
+    (λ c. search rules)
+    (λ c. search rules)
+    returns
+    (λ c κs. search rules)
+    (λ c. search rules)
+    returns_2)

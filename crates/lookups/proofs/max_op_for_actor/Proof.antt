@@ -21,37 +21,37 @@ abbrev K : tie.Start → ℕ
 K s = change_at (graph (T s)) s.args.actor (seq_for_actor (graph (T s)) s.args.actor)
 
 -- it is k, which is known
-is : (c : tie.After-k) → K c.before.before.before.before.before.before.before.before.before ≡ c.k.given.0.0
-is c = at_node _ _ _ (sym c.before.before.last-change.ensures ∙ c.k.given.1)
+is : (c : tie.In-At) → K c.before.before.before.before.before.before.before.before ≡ c.in-At.k
+is c = at_node _ _ _ (sym c.last_change.ensures ∙ c.in-At.is)
 
-low : (c : tie.After-k) → K c.before.before.before.before.before.before.before.before.before < changes (T c.before.before.before.before.before.before.before.before.before)
-low c = at_low _ _ _ (sym c.before.before.last-change.ensures ∙ c.k.given.1)
+low : (c : tie.In-At) → K c.before.before.before.before.before.before.before.before < changes (T c.before.before.before.before.before.before.before.before)
+low c = at_low _ _ _ (sym c.last_change.ensures ∙ c.in-At.is)
 
 -- its record lies in the table
-inside : (c : tie.After-k) → 6 * c.k.given.0.0 + 6 ≤ length (T c.before.before.before.before.before.before.before.before.before).nodes
-inside c = let e = is c in let l = low c in omega (arith, (room (T c.before.before.before.before.before.before.before.before.before) c.before.before.before.before.before.before.before.before.before.requires).nodes_in)
+inside : (c : tie.In-At) → 6 * c.in-At.k + 6 ≤ length (T c.before.before.before.before.before.before.before.before).nodes
+inside c = let e = is c in let l = low c in omega (arith, (room (T c.before.before.before.before.before.before.before.before) c.requires).nodes_in)
 
 -- or there is none
-none : (c : tie.After-enum-told) → changes (T c.before.before.before.before.before.before.before.before.before) ≤ K c.before.before.before.before.before.before.before.before.before
-none c = unknown_high _ _ (sym c.before.before.last-change.ensures ∙ c.enum_told.given.1)
+none : (c : tie.In_default) → changes (T c.before.before.before.before.before.before.before.before) ≤ K c.before.before.before.before.before.before.before.before
+none c = unknown_high _ _ (sym c.last_change.ensures ∙ c.in_default.is)
 
-returns : tie.Need-returns
-returns c = sym (max_op_none (graph (T c.before.before.before.before.before.before.before.before.before)) (K c.before.before.before.before.before.before.before.before.before) (none c))
+returns : tie.Need-returns-in_default
+returns c = sym (max_op_none (graph (T c.before.before.before.before.before.before.before.before)) (K c.before.before.before.before.before.before.before.before) (none c))
 
-mul_result : tie.Need-overflow-mul-result
-mul_result c = omega (arith, inside c.before)
+mul_result : tie.Need-overflow_mul-result
+mul_result c = omega (arith, inside c)
 
-add_result : tie.Need-overflow-add-result
-add_result c = omega (arith, inside c.before)
+add_result : tie.Need-overflow_add-result
+add_result c = omega (arith, inside c)
 
-mul_result_2 : tie.Need-overflow-mul-result-2
-mul_result_2 c = omega (arith, inside c.before, c.before.before.before.before.before.before.before.before.before.before.well-formed.1.0)
+mul_result_2 : tie.Need-offset_bounds-nodes-k
+mul_result_2 c = omega (arith, inside c, c.well_formed.1.0)
 
-shared_slice_read_result : tie.Need-shared-slice-read-result
-shared_slice_read_result c = omega (arith, inside c.before.before)
+shared_slice_read_result : tie.Need-bounds-nodes-k
+shared_slice_read_result c = omega (arith, inside c.before)
 
-returns_2 : tie.Need-returns-2
-returns_2 c = ap (max_op_at c.before.before.before.before.before.before.before.before.before.before.before.args.nodes.now) (sym (is c.before.before)) ∙ sym (max_op_known (graph (T c.before.before.before.before.before.before.before.before.before.before.before)) (K c.before.before.before.before.before.before.before.before.before.before.before) (low c.before.before))
+returns_2 : tie.Need-returns
+returns_2 c = ap (max_op_at c.args.nodes.now) (sym (is c.before)) ∙ sym (max_op_known (graph (T c.before.before.before.before.before.before.before.before.before)) (K c.before.before.before.before.before.before.before.before.before) (low c.before))
 
 pub max_op_for_actor_spec : {M : Type 1} → statement M
 max_op_for_actor_spec =

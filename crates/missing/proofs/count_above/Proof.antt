@@ -10,25 +10,25 @@ use Rattle.missing.specs.Missing.{above_at}
 use Rattle.missing.proofs.count_above.Statement.{statement}
 use Rattle.missing.proofs.count_above.Tie as tie
 
-abbrev invariant_loop : tie.invariant-loop
+abbrev invariant_loop : tie.invariant-loop-k
 invariant_loop nodes n clock c₀ k₀ c k = (k ≤ n) × (c ≡ tally (above_at nodes clock) k)
 
-abbrev decreases_loop : tie.decreases-loop
+abbrev decreases_loop : tie.decreases-loop-k
 decreases_loop nodes n clock c₀ k₀ c k = n - k
 
-loop_holds : tie.Need-loop-init invariant_loop decreases_loop
+loop_holds : tie.Need-loop-k-init invariant_loop decreases_loop
 unfolding tally
 loop_holds c = (search rules, refl)
 
-add_c : tie.Need-overflow-add-c invariant_loop decreases_loop
-add_c c = let b = tally_fits _ c.before.before.before.loop.k c.before.before.before.loop.c c.before.before.before.loop.invariant.1 in omega arith
+add_c : tie.Need-overflow_add-c invariant_loop decreases_loop
+add_c c = let b = tally_fits _ c.loop-k.k c.loop-k.c c.loop-k.invariant.1 in omega arith
 
-loop_again : tie.Need-loop-preserved invariant_loop decreases_loop
-loop_again c = let l = c.before.before.before.loop in
-    (search rules, ⊎_elim (λ w. w.1 ∙ tally_hit _ l.k l.c (sym c.before.is-above.ensures ∙ w.0.taken) l.invariant.1) (λ w. w.1 ∙ tally_miss _ l.k l.c (sym c.before.is-above.ensures ∙ w.0.left) l.invariant.1) c.if1.branch)
+loop_again : tie.Need-loop-k-preserved invariant_loop decreases_loop
+loop_again c = let l = c.loop-k in
+    (search rules, ⊎_elim (λ w. w.c-is ∙ tally_hit _ l.k l.c (sym c.is_above.ensures ∙ w.if-is_above.true) l.invariant.1) (λ w. w.c-is ∙ tally_miss _ l.k l.c (sym c.is_above.ensures ∙ w.if-is_above.false) l.invariant.1) c.if-is_above.branch-raw)
 
 returns : tie.Need-returns invariant_loop decreases_loop
-returns c = let e : c.before.loop.k ≡ c.before.before.before.before.args.n = omega arith in rw (← e) c.before.loop.invariant.1
+returns c = let e : c.loop-k.k ≡ c.args.n = omega arith in rw (← e) c.loop-k.invariant.1
 
 pub count_above_spec : {M : Type 1} → statement M
 count_above_spec =
