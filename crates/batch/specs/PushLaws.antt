@@ -1,17 +1,16 @@
 -- Laws of pushing.
-use Rattle.std.specs.Prelude.{◌≡◌, refl, ℕ, suc, ◌+◌, ◌*◌, ◌/◌, ◌%◌, ◌<◌, ◌≤◌, List, Bool, true, false, not, cond, ◌||◌, eqb, ltb, leb, length}
-use Rattle.std.proofs.Common.{sym, ap, ◌∙◌, subst, arith, eqb-true, ltb-false, leb-false}
+use Rattle.std.specs.Prelude.{◌≡◌, refl, ℕ, ◌+◌, ◌/◌, ◌%◌, ◌<◌, ◌≤◌, List, Bool, true, false, cond, eqb, ltb, leb, length}
+use Rattle.std.proofs.Common.{sym, arith, eqb-true, ltb-false, leb-false}
 use Rattle.std.proofs.Math.Seq.{take-length}
-use Rattle.list_laws.specs.Over.{over, part}
+use Rattle.list_laws.specs.Over.{part}
 use Rattle.paper.proofs.Bools.{by_bool, not-both}
 use Rattle.ready.specs.Tables.{known_in}
-use Rattle.records.specs.Records.{Rooms}
 use Rattle.records.specs.RecordLaws.{rooms_less}
 use Rattle.waiting.specs.Valid.{room, waiting, has_actor_seq_in, StoreValid}
 use Rattle.waiting.specs.ValidLaws.{sized_rooms}
 use Rattle.batch.specs.Push.{is_malformed, push_judged, Counted, Placeable}
 use Rattle.batch.specs.declared.Pushed.{Pushed}
-use Rattle.batch.specs.declared.Pushed.TheVariants.{Done, Malformed, InBatch, Waits, TooMany, Full}
+use Rattle.batch.specs.declared.Pushed.TheVariants.{Done}
 
 -- the whole of a list is a part of it
 pub whole_part : (h : List ℕ) (n : ℕ) → length h ≡ n → part h 0 n ≡ h

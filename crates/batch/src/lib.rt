@@ -1,4 +1,6 @@
 // A batch of waiting changes: pushing to it.
+#![tactic(auto)]
+
 ghost use Rattle.std.specs.Prelude.{◌≡◌, ℕ, ◌+◌, ◌*◌, ◌≤◌, ◌<◌, length, get_or};
 ghost use Rattle.waiting.specs.Valid.{StoreValid, HeldOrNot};
 ghost use Rattle.batch.specs.Push.{is_malformed, Counted, push_judged, Placeable, StandsLast, PushedTo};
@@ -8,7 +10,7 @@ use records::{copy, put_five};
 use waiting::{has_pair, valid};
 
 // What a push answers.
-#[derive(Drop)]
+#[derive(Clone, Copy)]
 pub enum Pushed {
     Done,
     NotValid,

@@ -1,5 +1,5 @@
 -- Dropping a branch over the lent tables: the list of the dropped ones, and what is left.
-use Rattle.std.specs.Prelude.{◌≡◌, ℕ, ◌+◌, ◌-◌, ◌*◌, ◌<◌, ◌≤◌, List, ◌++◌, Bool, not, ◌&&◌, eqb, leb, length, get_or, take}
+use Rattle.std.specs.Prelude.{◌≡◌, ℕ, ◌+◌, ◌-◌, ◌*◌, ◌≤◌, List, ◌++◌, Bool, not, ◌&&◌, eqb, leb, length, get_or, take}
 use Rattle.paper.specs.Lists.{mem, names, pick, tally}
 use Rattle.paper.specs.Queue.{drop_from, dropped, kept}
 use Rattle.paper.proofs.Dropped.{Spread}

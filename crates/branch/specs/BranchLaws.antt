@@ -1,12 +1,12 @@
 -- Laws of dropping a branch.
 use Rattle.std.specs.Prelude.{◌≡◌, refl, List, [], ◌∷◌, ◌++◌, Bool, true, false, not, cond, ◌||◌, length, take, get_or}
 use Rattle.std.proofs.Common.{sym, ap, ◌∙◌, subst, add-zero, add-one, append-nil, append_assoc, length-append, length-take-le, take-take, get_or-take}
-use Prim.Native.Nat.{ℕ, zero, suc, ◌+◌, ◌-◌, ◌*◌, ◌<◌, ◌≤◌}
+use Prim.Native.Nat.{ℕ, suc, ◌+◌, ◌-◌, ◌<◌, ◌≤◌}
 use Rattle.std.proofs.Math.Nat.{sub-zero}
 use native.Mathlib.Omega.{arith}
 use Rattle.std.proofs.lemmas.List.{take-append-le}
 use Rattle.paper.specs.Lists.{same_list, mem, names, pick, tally}
-use Rattle.paper.specs.Queue.{branch, children, drop_from, dropped, kept}
+use Rattle.paper.specs.Queue.{branch, children, dropped, kept}
 use Rattle.paper.proofs.Bools.{mem_get_d}
 use Rattle.paper.proofs.Count.{pick_more, pick_length, tally_more, tally_most, tally_wider}
 use Rattle.paper.proofs.Dropped.{spread_start, spread_most, spread_next, drop_turn, drop_stop, dropped_low}

@@ -1,4 +1,6 @@
 // Drops an actor's changes at or after a sequence, and all waiting ones that depend on them, out of a queue.
+#![tactic(auto)]
+
 ghost use Rattle.std.specs.Prelude.{◌≡◌, ◌&&◌, not, ℕ, ◌+◌, ◌*◌, ◌≤◌, ◌<◌, eqb, leb, length, take, get_or};
 ghost use Rattle.paper.specs.Lists.{names, mem, tally};
 ghost use Rattle.paper.specs.Lists.{hash_at, hashes_from};
@@ -13,7 +15,7 @@ use records::{close_up, is_listed};
 use waiting::valid;
 
 // What dropping a branch answers.
-#[derive(Drop)]
+#[derive(Clone, Copy)]
 pub enum BranchDropped {
     Done,
     NotValid,

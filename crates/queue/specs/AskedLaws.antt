@@ -1,9 +1,8 @@
 -- Laws of the questions: what a look-up in the table says of the paper's queue.
-use Rattle.std.specs.Prelude.{◌≡◌, refl, ℕ, ◌<◌, List, Bool, true, false}
-use Rattle.std.proofs.Common.{sym, ap, ◌∙◌}
+use Rattle.std.specs.Prelude.{◌≡◌, ℕ, List}
 use Rattle.paper.specs.Lists.{same_list, some_below, hash_at}
 use Rattle.paper.specs.Queue.{has_hash}
-use Rattle.paper.proofs.Bools.{same_bool, by_bool, not-both, some_of, of_some}
+use Rattle.paper.proofs.Bools.{same_bool, by_bool, some_of, of_some}
 use Rattle.paper.proofs.Hashes.{same→eq, eq→same}
 use Rattle.ready.specs.Tables.{queue_of, known_in}
 use Rattle.waiting.specs.ValidLaws.{known_place, known_none}

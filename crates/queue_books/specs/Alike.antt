@@ -1,14 +1,14 @@
 -- Two queues that hold the same changes have the same ready order, rest, dropped and kept ones, whatever they give past their size.
 -- Assumes nothing.
-use Rattle.std.specs.Prelude.{◌≡◌, Bool, false, cond, ◌&&◌, ◌||◌, eqb, ltb, leb, length, take, get_or}
+use Rattle.std.specs.Prelude.{◌≡◌, Bool, ◌&&◌, ◌||◌, eqb, ltb, length, take, get_or}
 use Rattle.std.proofs.Math.Path.{refl, ap}
 use Rattle.std.proofs.Common.{sym, ◌∙◌, subst, ⊎_elim, arith, length-take, get_or-take, ltb-true}
-use Prim.Native.Nat.{ℕ, zero, suc, ◌+◌, ◌-◌, ◌<◌, ◌≤◌}
+use Prim.Native.Nat.{ℕ, zero, suc, ◌<◌}
 use mathlib.Core.List.{List, [], ◌∷◌, ◌++◌}
 use Rattle.std.proofs.Math.Bool.{true, not}
-use Rattle.paper.specs.Lists.{same_list, mem, names, pick, every}
+use Rattle.paper.specs.Lists.{mem, names, pick, every}
 use Rattle.paper.specs.Queue.{Waiting, Queue, among, met, first, freed, order_from, order, rest, branch, children, drop_from, dropped, kept}
-use Rattle.paper.proofs.Bools.{by_bool, or_cases, mem_here, mem_append, mem_get_d, mem_place, or_right, mem_cons, pick_mem, pick_ext, or_left}
+use Rattle.paper.proofs.Bools.{by_bool, or_cases, mem_here, mem_append, mem_get_d, mem_place, or_right, mem_cons, pick_mem, pick_ext}
 use Rattle.paper.specs.Books.{changes_at}
 
 -- the same size, and the same changes below it

@@ -1,13 +1,13 @@
 -- Records filled into tables, read back as records: what stands at each place, and that distinct records stay distinct.
 -- Assumes nothing.
 use Rattle.std.specs.Prelude.{◌≡◌, refl, ℕ, zero, suc, ◌+◌, ◌-◌, ◌*◌, ◌<◌, ◌≤◌, List, [], ◌∷◌, ◌++◌, map, Bool, true, false, cond, ◌&&◌, eqb, ltb, length, get_or}
-use Rattle.std.proofs.Common.{sym, ap, ◌∙◌, subst, ⊎_elim, add-zero, eq-or-lt_of_le, add-one, arith, append_assoc, append-nil}
+use Rattle.std.proofs.Common.{sym, ap, ◌∙◌, subst, ⊎_elim, add-zero, eq-or-lt_of_le, arith, append_assoc, append-nil}
 use Rattle.paper.specs.Lists.{each_below, pick, count}
 use Rattle.paper.specs.Queue.{Waiting, Queue, Distinct}
 use Rattle.paper.proofs.Bools.{below_or_not, pick_mem, mem_get_d}
 use Rattle.paper.proofs.Count.{count_pick, tally_one, count_two}
 use Rattle.list_laws.specs.Over.{over, part, part_length_lem, over_length, over_here}
-use Rattle.ready.specs.Tables.{dep_count, record_at, queue_of}
+use Rattle.ready.specs.Tables.{dep_count, record_at}
 use Rattle.records.specs.Records.{five_at, dep_bytes, fill_hashes, fill_numbers, fill_deps, Rooms, Source, Filled, Copied, SameLengths}
 use Rattle.records.specs.RecordLaws.{source_less, rooms_less, rooms_same}
 use Rattle.queue_books.specs.View.{part_before, get_d_before, get_d_here, record_same}

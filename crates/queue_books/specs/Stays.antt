@@ -1,31 +1,30 @@
 -- What was valid stays valid, after every operation that changes a queue or a batch, and what it holds then, as the paper's list.
 -- Assumes nothing.
-use Rattle.std.specs.Prelude.{◌≡◌, refl, ◌⊎◌, Bool, false, cond, ◌||◌, eqb, ltb, set, drop}
-use Rattle.std.proofs.Common.{sym, ◌∙◌, subst, ⊎_elim, zero-add, add-zero, arith, length-set, get_or-set_same, ltb-false}
+use Rattle.std.specs.Prelude.{◌≡◌, refl, ◌⊎◌, Bool, false, set}
+use Rattle.std.proofs.Common.{sym, ◌∙◌, subst, ⊎_elim, zero-add, arith, length-set, get_or-set_same}
 use Rattle.std.proofs.Math.Path.{ap}
 use Rattle.std.proofs.Math.Logic.{inl, inr}
-use Prim.Native.Nat.{ℕ, zero, suc, ◌+◌, ◌-◌, ◌*◌, ◌/◌, ◌<◌, ◌≤◌}
+use Prim.Native.Nat.{ℕ, suc, ◌+◌, ◌-◌, ◌*◌, ◌/◌, ◌<◌, ◌≤◌}
 use Rattle.std.proofs.Math.Numerals.{add-one}
 use mathlib.Core.List.{List, [], ◌∷◌, ◌++◌}
 use Rattle.std.proofs.Math.Bool.{true}
 use Rattle.std.proofs.Math.ListN.{length, get_or, take, length-take}
 use Rattle.std.proofs.Math.Seq.{get_or-take, take-length}
-use Rattle.paper.specs.Lists.{names, each_below, pick, tally, hash_at, hashes_of, hashes_from}
-use Rattle.paper.specs.Queue.{Waiting, Queue, Distinct, order}
+use Rattle.paper.specs.Lists.{names, each_below, pick, hash_at, hashes_of}
+use Rattle.paper.specs.Queue.{Waiting, Distinct, order}
 use Rattle.paper.proofs.Bools.{by_bool, not-both, or_left, or_right, below_or_not, mem_get_d}
 use Rattle.paper.proofs.Ready.{listed_low, found_earlier, among_place}
 use Rattle.paper.proofs.Count.{pick_length, tally_most}
-use Rattle.list_laws.specs.Over.{over, part}
+use Rattle.list_laws.specs.Over.{over}
 use Rattle.ready.specs.Tables.{dep_count, record_at, queue_of, known_in}
-use Rattle.records.specs.Records.{Rooms, Few, Source, Filled, Copied, SameLengths, place_of}
+use Rattle.records.specs.Records.{Rooms, Few, Filled, Copied, SameLengths, place_of}
 use Rattle.records.specs.RecordLaws.{rooms_less, source_list, source_front}
-use Rattle.waiting.specs.Valid.{room, waiting, StoreLaid, Sized, StoreValid, has_actor_seq_in}
-use Rattle.waiting.specs.ValidLaws.{sized_rooms, valid_rooms, known_none, actor_hit, few_next, roomy_rooms}
+use Rattle.waiting.specs.Valid.{room, waiting, StoreLaid, StoreValid, has_actor_seq_in}
+use Rattle.waiting.specs.ValidLaws.{sized_rooms, valid_rooms, known_none, actor_hit, few_next}
 use Rattle.waiting.specs.Taken.{TakenOut}
-use Rattle.batch.specs.Push.{push_judged, StandsLast}
-use Rattle.batch.specs.PushLaws.{Fine, done_fine, whole_part}
-use Rattle.batch.specs.declared.Pushed.{Pushed}
-use Rattle.queue.specs.Hand.{clash_at, any_clash, handed_as, Appended}
+use Rattle.batch.specs.Push.{StandsLast}
+use Rattle.batch.specs.PushLaws.{Fine, whole_part}
+use Rattle.queue.specs.Hand.{clash_at, any_clash, Appended}
 use Rattle.queue.specs.HandLaws.{clash_hit}
 use Rattle.release.specs.Release.{ready_of}
 use Rattle.paper.specs.Books.{changes_at}

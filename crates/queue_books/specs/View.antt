@@ -1,7 +1,7 @@
 -- Records seen through the tables: which record stands where, after records are written or filled in.
 -- Assumes nothing.
-use Rattle.std.specs.Prelude.{◌≡◌, refl, ℕ, zero, suc, ◌+◌, ◌-◌, ◌*◌, ◌<◌, ◌≤◌, List, [], ◌∷◌, ◌++◌, length, get_or, take, drop}
-use Rattle.std.proofs.Common.{sym, ap, ◌∙◌, subst, add-zero, arith, length-drop, take-add, drop_at, drop-drop, take-take, length-take-le, get_or-take}
+use Rattle.std.specs.Prelude.{◌≡◌, refl, ℕ, zero, suc, ◌+◌, ◌-◌, ◌*◌, ◌<◌, ◌≤◌, List, ◌∷◌, length, get_or, take, drop}
+use Rattle.std.proofs.Common.{sym, ap, ◌∙◌, add-zero, arith, length-drop, take-add, drop_at, drop-drop, take-take, length-take-le, get_or-take}
 use Rattle.paper.specs.Lists.{hashes_from, hash_at, each_below}
 use Rattle.paper.specs.Queue.{Waiting}
 use Rattle.list_laws.specs.Over.{over, part, part_at, over_length, over_before, over_here}

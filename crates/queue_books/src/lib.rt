@@ -1,1 +1,2 @@
 // No code: what the promises of the queue's crates come to.
+#![tactic(auto)]

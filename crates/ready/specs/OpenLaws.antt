@@ -1,13 +1,13 @@
 -- Laws of what is unmet, and of counting along a list of hashes.
 use Rattle.std.proofs.Math.Path.{◌≡◌, sym, ap}
-use Rattle.std.specs.Prelude.{refl, ℕ, zero, suc, ◌+◌, ◌-◌, ◌*◌, ◌<◌, ◌≤◌, Bool, true, false, ◌||◌, ◌&&◌, eqb, length, take, drop, get_or}
-use Rattle.std.proofs.Common.{ap₂, ◌∙◌, subst, ⊎_elim, add-one, add-zero, zero-add, arith, take-suc, eq-eqb, ne_eqb, eqb-true}
+use Rattle.std.specs.Prelude.{refl, ℕ, suc, ◌+◌, ◌-◌, ◌<◌, ◌≤◌, Bool, true, false, ◌||◌, eqb, length, take, get_or}
+use Rattle.std.proofs.Common.{ap₂, ◌∙◌, add-zero, zero-add, arith, take-suc, ne_eqb}
 use Rattle.std.proofs.Math.Nat.{sub-zero}
-use mathlib.Core.List.{List, [], ◌∷◌, ◌++◌}
+use mathlib.Core.List.{List, [], ◌∷◌}
 use Rattle.std.proofs.Math.Bool.{not, cond}
 use Rattle.paper.specs.Lists.{same_list, count, every}
 use Rattle.paper.specs.Queue.{Queue, among, met}
-use Rattle.paper.proofs.Bools.{by_bool, not-both, same_bool}
+use Rattle.paper.proofs.Bools.{by_bool}
 use Rattle.paper.proofs.Hashes.{same→eq}
 use Rattle.paper.proofs.Ready.{among_append}
 use Rattle.paper.specs.Lists.{hash_at, hashes_from}

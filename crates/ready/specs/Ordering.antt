@@ -1,17 +1,17 @@
 -- How far the ready order is: the invariant of the loop over the listed changes, and its laws.
-use Rattle.std.specs.Prelude.{◌≡◌, ℕ, zero, suc, ◌+◌, ◌-◌, ◌*◌, ◌<◌, ◌≤◌, Bool, cond, ◌||◌, ◌&&◌, length, get_or}
+use Rattle.std.specs.Prelude.{◌≡◌, ℕ, zero, suc, ◌+◌, ◌-◌, ◌*◌, ◌<◌, ◌≤◌, Bool, ◌&&◌, length, get_or}
 use Rattle.std.proofs.Math.Path.{refl, sym, ap}
-use Rattle.std.proofs.Common.{ap₂, ◌∙◌, subst, add-one, arith, length-append, length-take-le, get_or-take, eq-eqb, ne_eqb, eqb-true}
+use Rattle.std.proofs.Common.{◌∙◌, add-one, arith, length-append, length-take-le, get_or-take, eq-eqb, ne_eqb, eqb-true}
 use Rattle.std.proofs.Math.Nat.{sub-zero}
-use mathlib.Core.List.{List, [], ◌∷◌, ◌++◌, append-nil}
+use mathlib.Core.List.{List, [], ◌++◌, append-nil}
 use Rattle.std.proofs.Math.Bool.{true, false, not}
 use Rattle.std.proofs.Math.Dec.{eqb}
 use Rattle.std.proofs.Math.ListN.{take}
 use Rattle.std.proofs.lemmas.List.{take-append-le}
 use Rattle.std.proofs.lemmas.Bool.{eqb-false}
-use Rattle.paper.specs.Lists.{same_list, mem, pick, tally, count}
-use Rattle.paper.specs.Queue.{Queue, Distinct, among, met, first, freed, order_from, order}
-use Rattle.paper.proofs.Bools.{by_bool, same_bool, pick_ext, mem_get_d}
+use Rattle.paper.specs.Lists.{same_list, pick, tally, count}
+use Rattle.paper.specs.Queue.{Queue, Distinct, met, first, freed, order_from, order}
+use Rattle.paper.proofs.Bools.{by_bool, pick_ext, mem_get_d}
 use Rattle.paper.proofs.Count.{pick_length}
 use Rattle.paper.proofs.Ready.{Listed, listed_start, listed_most, listed_in, listed_new, listed_next, order_turn, order_stop}
 use Rattle.paper.specs.Lists.{hash_at, hashes_from}

@@ -1,7 +1,7 @@
 -- The lent tables of a queue or a batch as the paper's queue: hashes 32 bytes each; numbers 5 each, actor key, sequence, max op, op count, number of
 -- dependencies; deps 32 hashes each, of which the first are used.
-use Rattle.std.specs.Prelude.{ℕ, zero, suc, ◌+◌, ◌*◌, ◌<◌, ◌≤◌, List, [], ◌∷◌, Bool, true, false, not, length, get_or}
-use Rattle.paper.specs.Queue.{Waiting, Queue, Distinct}
+use Rattle.std.specs.Prelude.{ℕ, ◌+◌, ◌*◌, ◌<◌, ◌≤◌, List, Bool, true, false, not, length, get_or}
+use Rattle.paper.specs.Queue.{Waiting, Queue}
 use Rattle.paper.specs.Lists.{hash_at, hashes_from}
 use Rattle.hash.specs.Hash.{find_hash}
 use Rattle.hash.specs.declared.Found.{Found}

@@ -1,4 +1,6 @@
 // The ready order of a queue, as positions, by counting what each waiting change still waits for.
+#![tactic(auto)]
+
 ghost use Rattle.std.specs.Prelude.{◌≡◌, cond, not, ◌&&◌, List, [], ◌∷◌, ◌++◌, ℕ, ◌+◌, ◌*◌, ◌≤◌, ◌<◌, eqb, length, get_or, take};
 ghost use Rattle.paper.specs.Lists.{same_list, count, tally};
 ghost use Rattle.paper.specs.Lists.{hash_at, hashes_from};

@@ -2,7 +2,6 @@
 use Rattle.std.specs.Prelude.{◌≡◌, ℕ, zero, suc, ◌+◌, ◌*◌, ◌<◌, ◌≤◌, List, [], ◌∷◌, ◌⊎◌, Bool, true, false, not, length, get_or, take, drop}
 use Rattle.paper.specs.Lists.{mem, pick, tally}
 use Rattle.list_laws.specs.Over.{over, part}
-use Rattle.paper.specs.Lists.{hash_at}
 use Rattle.ready.specs.Tables.{dep_count}
 
 -- the five numbers of record k

@@ -1,23 +1,21 @@
 -- Laws of a release.
-use Rattle.std.specs.Prelude.{◌≡◌, refl, ℕ, zero, suc, ◌+◌, ◌*◌, ◌<◌, ◌≤◌, Bool, true, false, cond, ◌&&◌, leb, length, set, take, get_or}
-use Rattle.std.proofs.Common.{sym, ◌∙◌, subst, arith, get_or-take, leb-true}
+use Rattle.std.specs.Prelude.{◌≡◌, ℕ, ◌*◌, ◌<◌, ◌≤◌, true, false, length, take, get_or}
+use Rattle.std.proofs.Common.{sym, ◌∙◌, subst, arith, get_or-take}
 use Rattle.std.proofs.Math.Path.{ap}
 use mathlib.Core.List.{List}
 use Rattle.std.proofs.Math.Bool.{not}
-use Rattle.paper.specs.Lists.{mem, pick, tally}
-use Rattle.paper.specs.Queue.{order, rest}
-use Rattle.paper.proofs.Bools.{and_fst, and_snd, mem_get_d}
-use Rattle.paper.proofs.Count.{pick_length, tally_most}
+use Rattle.paper.specs.Lists.{mem, pick}
+use Rattle.paper.specs.Queue.{rest}
+use Rattle.paper.proofs.Bools.{mem_get_d}
 use Rattle.paper.proofs.Ready.{listed_low, order_most}
-use Rattle.ready.specs.Tables.{queue_of, known_in, DepsHeld}
+use Rattle.ready.specs.Tables.{queue_of, known_in}
 use Rattle.ready.specs.Ordering.{Askable, Ordered}
-use Rattle.records.specs.Records.{Rooms, Listable, Filled, place_of, unlisted, Closed}
-use Rattle.records.specs.RecordLaws.{filled_same, rooms_less}
+use Rattle.records.specs.Records.{Listable, Filled, place_of, unlisted}
+use Rattle.records.specs.RecordLaws.{filled_same}
 use Rattle.waiting.specs.Valid.{waiting, StoreValid, is_roomy}
 use Rattle.waiting.specs.ValidLaws.{valid_rooms, valid_small}
 use Rattle.waiting.specs.Taken.{TakenOut}
 use Rattle.release.specs.Release.{ready_of, rest_of, released_as, GivenOut}
-use Rattle.release.specs.declared.Released.{Released}
 use Rattle.release.specs.declared.Released.TheVariants.{All, Short}
 
 -- what the test of room says of the answer

@@ -1,4 +1,6 @@
 // Releasing the ready ones of a queue, against the hashes that a graph knows.
+#![tactic(auto)]
+
 ghost use Rattle.std.specs.Prelude.{◌≡◌, ℕ, ◌+◌, ◌*◌, ◌≤◌, ◌<◌, length, get_or};
 ghost use Rattle.paper.specs.Lists.{pick};
 ghost use Rattle.records.specs.Records.{Rooms, Listable, Filled, place_of, unlisted};
@@ -11,7 +13,7 @@ use records::{close_up, copy_list};
 use waiting::{roomy, valid};
 
 // What a release answers: how many it gives out, or that the answer tables are too short.
-#[derive(Drop)]
+#[derive(Clone, Copy)]
 pub enum Released {
     All(usize),
     Short,

@@ -1,13 +1,13 @@
 -- Laws of validity: what the scans have found where they stand.
-use Rattle.std.specs.Prelude.{◌≡◌, ◌↔◌, ℕ, suc, ◌+◌, ◌*◌, ◌<◌, ◌≤◌, List, Bool, true, false, not, ◌&&◌, ◌||◌, eqb, leb, length, get_or}
+use Rattle.std.specs.Prelude.{◌≡◌, ◌↔◌, ℕ, ◌+◌, ◌*◌, ◌<◌, ◌≤◌, List, Bool, true, false, not, ◌&&◌, eqb, leb, length, get_or}
 use Rattle.std.proofs.Math.Path.{refl}
-use Rattle.std.proofs.Common.{sym, ap, ◌∙◌, subst, ⊎_elim, arith, add-one, eq-or-lt_of_le, below_more}
+use Rattle.std.proofs.Common.{sym, ap, ◌∙◌, ⊎_elim, arith, add-one, eq-or-lt_of_le, below_more}
 use Rattle.std.proofs.lemmas.Bool.{false≢true}
 use borrow.Author.Tests.{eqb-true, eq-eqb, leb-true, not-true, not-false}
 use Rattle.list_laws.specs.Iff.{failed}
 use Rattle.paper.specs.Lists.{some_below}
 use Rattle.paper.specs.Queue.{Distinct}
-use Rattle.paper.proofs.Bools.{by_bool, not-both, to_false, or_cases, and_both, and_fst, and_snd, some_of, of_some, below_or_not}
+use Rattle.paper.proofs.Bools.{not-both, and_both, and_fst, and_snd, some_of, of_some, below_or_not}
 use Rattle.paper.specs.Lists.{hash_at}
 use Rattle.hash.specs.Hash.{find_hash}
 use Rattle.hash.specs.HashLaws.{FoundIs, find_is}
@@ -16,7 +16,7 @@ use Rattle.hash.specs.declared.Found.TheVariants.{At, Unknown}
 use Rattle.ready.specs.Tables.{queue_of, is_at, known_in, dep_count}
 use Rattle.records.specs.Records.{Few, Rooms}
 use Rattle.records.specs.RecordLaws.{rooms_less}
-use Rattle.waiting.specs.Valid.{room, waiting, StoreLaid, Sized, StoreValid, Apart, has_actor_seq_in, is_roomy}
+use Rattle.waiting.specs.Valid.{room, waiting, Sized, StoreValid, Apart, has_actor_seq_in, is_roomy}
 
 -- ---- few
 

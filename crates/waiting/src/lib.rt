@@ -1,6 +1,8 @@
 // Waiting changes in lent tables, a queue or a batch of the same layout. hashes: 32 bytes a record. numbers: 5 a record, actor key, sequence,
 // max op, op count, number of dependencies. deps: 1,024 bytes a record, 32 hashes, of which the first are used. count: one number.
 // Here: when they are valid, and opening empty ones.
+#![tactic(auto)]
+
 ghost use Rattle.std.specs.Prelude.{◌≡◌, ◌↔◌, true, ◌&&◌, eqb, ℕ, ◌+◌, ◌*◌, ◌≤◌, ◌<◌, length, get_or};
 ghost use Rattle.waiting.specs.Valid.{StoreLaid, Sized, StoreValid, HeldOrNot, Apart, has_actor_seq_in, is_roomy, OpenedTo};
 ghost use Rattle.records.specs.Records.{Few};
@@ -8,7 +10,7 @@ ghost use Rattle.records.specs.Records.{Few};
 use ready::is_known;
 
 // What opening answers.
-#[derive(Drop)]
+#[derive(Clone, Copy)]
 pub enum StoreOpened {
     Done,
     NotValid,

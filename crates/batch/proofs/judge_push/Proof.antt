@@ -9,35 +9,35 @@ use Rattle.batch.specs.PushLaws.{whole}
 use Rattle.batch.proofs.judge_push.Statement.{statement}
 use Rattle.batch.proofs.judge_push.Tie as tie
 
-returns : tie.Need-returns
+returns : tie.Need-returns-then-malformed
 unfolding push_judged
-returns c = rw (sym c.before.malformed.ensures ∙ c.if1.true)
+returns c = rw (sym c.before.malformed.ensures ∙ c.if-malformed.true)
 
-told : (c : tie.Else1) → length c.before.before.before.before.before.before.before.args.hash.now ≡ 32
-told c = (whole _ _ (sym c.before.malformed.ensures ∙ c.if1.false)).0
+told : (c : tie.Else-malformed) → length c.before.before.before.before.before.before.before.args.hash.now ≡ 32
+told c = (whole _ _ (sym c.before.malformed.ensures ∙ c.if-malformed.false)).0
 
-is_known_requires : tie.Need-is-known-requires
+is_known_requires : tie.Need-is_known-requires
 is_known_requires c κs = (c.before.before.before.before.before.before.before.before.requires.in_hashes, told c.before)
 
-returns_2 : tie.Need-returns-2
+returns_2 : tie.Need-returns-then-is_known
 unfolding push_judged
-returns_2 c = rw (sym c.before.before.before.before.malformed.ensures ∙ c.before.before.before.if1.false, sym c.before.is_Known.ensures ∙ c.if2.true)
+returns_2 c = rw (sym c.before.before.before.before.malformed.ensures ∙ c.before.before.before.if-malformed.false, sym c.before.is_known.ensures ∙ c.if-is_known.true)
 
-returns_3 : tie.Need-returns-3
+returns_3 : tie.Need-returns-then-has_pair
 unfolding push_judged
-returns_3 c = rw (sym c.before.before.before.before.before.before.malformed.ensures ∙ c.before.before.before.before.before.if1.false, sym c.before.before.before.is_Known.ensures ∙ c.before.before.if2.false, sym c.before.has-pair.ensures ∙ c.if3.true)
+returns_3 c = rw (sym c.before.before.before.before.before.before.malformed.ensures ∙ c.before.before.before.before.before.if-malformed.false, sym c.before.before.before.is_known.ensures ∙ c.before.before.if-is_known.false, sym c.before.has_pair.ensures ∙ c.if-has_pair.true)
 
-returns_4 : tie.Need-returns-4
+returns_4 : tie.Need-returns-then-needs-gt32
 unfolding push_judged
-returns_4 c = rw (sym c.before.before.before.before.before.before.before.malformed.ensures ∙ c.before.before.before.before.before.before.if1.false, sym c.before.before.before.before.is_Known.ensures ∙ c.before.before.before.if2.false, sym c.before.before.has-pair.ensures ∙ c.before.if3.false, lt-ltb _ _ c.if4.true)
+returns_4 c = rw (sym c.before.before.before.before.before.before.before.malformed.ensures ∙ c.before.before.before.before.before.before.if-malformed.false, sym c.before.before.before.before.is_known.ensures ∙ c.before.before.before.if-is_known.false, sym c.before.before.has_pair.ensures ∙ c.before.if-has_pair.false, lt-ltb _ _ c.if-needs-gt32.true)
 
-returns_5 : tie.Need-returns-5
+returns_5 : tie.Need-returns-then-hashes-n
 unfolding push_judged
-returns_5 c = rw (sym c.before.before.before.before.before.before.before.before.malformed.ensures ∙ c.before.before.before.before.before.before.before.if1.false, sym c.before.before.before.before.before.is_Known.ensures ∙ c.before.before.before.before.if2.false, sym c.before.before.before.has-pair.ensures ∙ c.before.before.if3.false, le-ltb _ _ c.before.if4.false, le-leb _ _ c.if5.true)
+returns_5 c = rw (sym c.before.before.before.before.before.before.before.before.malformed.ensures ∙ c.before.before.before.before.before.before.before.if-malformed.false, sym c.before.before.before.before.before.is_known.ensures ∙ c.before.before.before.before.if-is_known.false, sym c.before.before.before.has_pair.ensures ∙ c.before.before.if-has_pair.false, le-ltb _ _ c.before.if-needs-gt32.false, le-leb _ _ c.if-hashes-n.true)
 
-returns_6 : tie.Need-returns-6
+returns_6 : tie.Need-returns
 unfolding push_judged
-returns_6 c = rw (sym c.before.before.before.before.before.before.before.before.malformed.ensures ∙ c.before.before.before.before.before.before.before.if1.false, sym c.before.before.before.before.before.is_Known.ensures ∙ c.before.before.before.before.if2.false, sym c.before.before.before.has-pair.ensures ∙ c.before.before.if3.false, le-ltb _ _ c.before.if4.false, lt-leb _ _ c.if5.false)
+returns_6 c = rw (sym c.before.before.before.before.before.before.before.before.malformed.ensures ∙ c.before.before.before.before.before.before.before.if-malformed.false, sym c.before.before.before.before.before.is_known.ensures ∙ c.before.before.before.before.if-is_known.false, sym c.before.before.before.has_pair.ensures ∙ c.before.before.if-has_pair.false, le-ltb _ _ c.before.if-needs-gt32.false, lt-leb _ _ c.if-hashes-n.false)
 
 pub judge_push_spec : {M : Type 1} → statement M
 judge_push_spec =

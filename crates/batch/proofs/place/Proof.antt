@@ -13,7 +13,7 @@ returns c =
     record {
       hashes = c.before.before.before.before.before.before.before.before.before.before.copy.ensures ∙ ap (over _ _) (whole_part _ _ st.requires.hash_whole);
       numbers = c.before.before.before.before.before.before.put_five.ensures;
-      deps = c.before.before.copy2.ensures ∙ ap (over _ _) (whole_part _ _ refl);
+      deps = c.before.before.copy-2.ensures ∙ ap (over _ _) (whole_part _ _ refl);
       count = refl;
     }
 

@@ -7,39 +7,39 @@ use Rattle.batch.specs.PushLaws.{valid_counted, done_fine, fine_placeable}
 use Rattle.batch.proofs.take_in.Statement.{statement}
 use Rattle.batch.proofs.take_in.Tie as tie
 
-judge_push_requires : tie.Need-judge-push-requires
-judge_push_requires c κs = valid_counted c.before.before.before.before.before.before.before.before.before.requires
+judge_push_requires : tie.Need-judge_push-answer-requires
+judge_push_requires c κs = valid_counted c.requires
 
 place_requires : tie.Need-place-requires
-place_requires c κs = fine_placeable c.before.before.before.before.before.before.before.before.before.before.before.before.before.before.before.before.requires (done_fine _ _ _ _ _ _ _ (sym c.before.before.before.before.before.before.judge-push.ensures ∙ c.before.before.before.before.enum-told7.given.1))
+place_requires c κs = fine_placeable c.requires (done_fine _ _ _ _ _ _ _ (sym c.judge_push-answer.ensures ∙ c.in-Done.is))
 
-returns : tie.Need-returns
+returns : tie.Need-returns-in-NotValid
 unfolding PushedTo
-returns c = (sym c.enum_told.given.1 ∙ c.before.before.judge-push.ensures, record { hashes = refl; numbers = refl; deps = refl; count = refl })
+returns c = (sym c.in-NotValid.is ∙ c.judge_push-answer.ensures, record { hashes = refl; numbers = refl; deps = refl; count = refl })
 
-returns_2 : tie.Need-returns-2
+returns_2 : tie.Need-returns-in-Malformed
 unfolding PushedTo
-returns_2 c = (sym c.enum-told2.given.1 ∙ c.before.before.judge-push.ensures, record { hashes = refl; numbers = refl; deps = refl; count = refl })
+returns_2 c = (sym c.in-Malformed.is ∙ c.judge_push-answer.ensures, record { hashes = refl; numbers = refl; deps = refl; count = refl })
 
-returns_3 : tie.Need-returns-3
+returns_3 : tie.Need-returns-in-InBatch
 unfolding PushedTo
-returns_3 c = (sym c.enum-told3.given.1 ∙ c.before.before.judge-push.ensures, record { hashes = refl; numbers = refl; deps = refl; count = refl })
+returns_3 c = (sym c.in-InBatch.is ∙ c.judge_push-answer.ensures, record { hashes = refl; numbers = refl; deps = refl; count = refl })
 
-returns_4 : tie.Need-returns-4
+returns_4 : tie.Need-returns-in-Waits
 unfolding PushedTo
-returns_4 c = (sym c.enum-told4.given.1 ∙ c.before.before.judge-push.ensures, record { hashes = refl; numbers = refl; deps = refl; count = refl })
+returns_4 c = (sym c.in-Waits.is ∙ c.judge_push-answer.ensures, record { hashes = refl; numbers = refl; deps = refl; count = refl })
 
-returns_5 : tie.Need-returns-5
+returns_5 : tie.Need-returns-in-TooMany
 unfolding PushedTo
-returns_5 c = (sym c.enum-told5.given.1 ∙ c.before.before.judge-push.ensures, record { hashes = refl; numbers = refl; deps = refl; count = refl })
+returns_5 c = (sym c.in-TooMany.is ∙ c.judge_push-answer.ensures, record { hashes = refl; numbers = refl; deps = refl; count = refl })
 
-returns_6 : tie.Need-returns-6
+returns_6 : tie.Need-returns-in-Full
 unfolding PushedTo
-returns_6 c = (sym c.enum-told6.given.1 ∙ c.before.before.judge-push.ensures, record { hashes = refl; numbers = refl; deps = refl; count = refl })
+returns_6 c = (sym c.in-Full.is ∙ c.judge_push-answer.ensures, record { hashes = refl; numbers = refl; deps = refl; count = refl })
 
-returns_7 : tie.Need-returns-7
+returns_7 : tie.Need-returns-in-Done
 unfolding PushedTo
-returns_7 c = (sym c.before.before.before.before.before.before.before.before.before.before.before.before.before.enum-told7.given.1 ∙ c.before.before.before.before.before.before.before.before.before.before.before.before.before.before.before.judge-push.ensures, c.before.before.before.before.before.before.before.before.place.ensures)
+returns_7 c = (sym c.in-Done.is ∙ c.judge_push-answer.ensures, c.place.ensures)
 
 pub take_in_spec : {M : Type 1} → statement M
 take_in_spec =

@@ -10,17 +10,17 @@ use Rattle.branch.specs.BranchLaws.{dropped_out, valid_droppable}
 use Rattle.branch.proofs.drop_branch.Statement.{statement}
 use Rattle.branch.proofs.drop_branch.Tie as tie
 
-list_dropped_requires : tie.Need-list-dropped-requires
-list_dropped_requires c κs = valid_droppable _ _ c.before.before.before.before.before.before.before.before.before.requires (omega arith)
+list_dropped_requires : tie.Need-list_dropped-r-requires
+list_dropped_requires c κs = valid_droppable _ _ c.requires (omega arith)
 
-close_up_requires : tie.Need-close-up-requires
-close_up_requires c κs = let v = c.before.before.before.before.before.before.before.before.before.before.before.before.before.before.before.requires in (valid_rooms v, (v.few, (valid_small v, c.before.before.before.before.before.list-dropped.ensures.fits)))
+close_up_requires : tie.Need-close_up-w-requires
+close_up_requires c κs = let v = c.requires in (valid_rooms v, (v.few, (valid_small v, c.list_dropped-r.ensures.fits)))
 
-cast_count : tie.Need-overflow-cast-count
-cast_count c = omega (arith, closed_most c.before.before.before.before.before.before.close_up.ensures, valid_small c.before.before.before.before.before.before.before.before.before.before.before.before.before.before.before.before.before.before.before.before.before.before.requires)
+cast_count : tie.Need-overflow_cast-count
+cast_count c = omega (arith, closed_most c.close_up-w.ensures, valid_small c.requires)
 
 returns : tie.Need-returns
-returns c = dropped_out _ c.before.before.before.before.before.before.before.before.before.before.before.before.list-dropped.ensures (closed_out _ c.before.before.before.before.before.before.close_up.ensures refl)
+returns c = dropped_out _ c.list_dropped-r.ensures (closed_out _ c.close_up-w.ensures refl)
 
 pub drop_branch_spec : {M : Type 1} → statement M
 drop_branch_spec =

@@ -10,24 +10,23 @@ use Rattle.waiting.specs.ValidLaws.{sized_rooms, valid_rooms}
 use Rattle.queue.proofs.append_batch.Statement.{statement}
 use Rattle.queue.proofs.append_batch.Tie as tie
 
-returns : tie.Need-returns
+returns : tie.Need-returns-then-clashes
 unfolding handed_as HandedTo
-returns c = (rw (sym c.before.clashes.ensures ∙ c.if1.true), record { queue = record { hashes = refl; numbers = refl; deps = refl; count = refl }; batch = refl })
+returns c = (rw (sym c.clashes.ensures ∙ c.if-clashes.true), record { queue = record { hashes = refl; numbers = refl; deps = refl; count = refl }; batch = refl })
 
-returns_2 : tie.Need-returns-2
+returns_2 : tie.Need-returns-then-hashes-n
 unfolding handed_as HandedTo
-returns_2 c = (rw (sym c.before.before.clashes.ensures ∙ c.before.if1.false, lt-ltb _ _ c.if2.true), record { queue = record { hashes = refl; numbers = refl; deps = refl; count = refl }; batch = refl })
+returns_2 c = (rw (sym c.clashes.ensures ∙ c.if-clashes.false, lt-ltb _ _ c.if-hashes-n.true), record { queue = record { hashes = refl; numbers = refl; deps = refl; count = refl }; batch = refl })
 
 append_requires : tie.Need-append-requires
 append_requires c κs =
-    let st = c.before.before.before.before.before.before.before.before.before.before.before.before.before.before.before.before.before.before in
-    (valid_rooms st.requires.1, (rooms_less _ (sized_rooms st.requires.0.sized) c.before.before.before.if2.false, st.requires.1.few))
+    (valid_rooms c.requires.1, (rooms_less _ (sized_rooms c.requires.0.sized) c.if-hashes-n.false, c.requires.1.few))
 
-returns_3 : tie.Need-returns-3
+returns_3 : tie.Need-returns
 unfolding handed_as HandedTo
 returns_3 c = (
-  rw (sym c.before.before.before.before.before.before.before.before.before.before.before.before.clashes.ensures ∙ c.before.before.before.before.before.before.before.before.before.before.before.if1.false, le-ltb _ _ c.before.before.before.before.before.before.before.before.before.before.if2.false),
-  record { tables = c.before.before.before.before.before.before.append.ensures; count = refl; emptied = refl },
+  rw (sym c.clashes.ensures ∙ c.if-clashes.false, le-ltb _ _ c.if-hashes-n.false),
+  record { tables = c.append.ensures; count = refl; emptied = refl },
 )
 
 pub append_batch_spec : {M : Type 1} → statement M
@@ -49,8 +48,8 @@ append_batch_spec =
     append_requires
     (λ c. search rules)
     (λ c. search rules)
-    (λ c. omega (arith, c.before.before.before.before.before.before.before.before.before.before.before.before.before.before.before.before.before.before.before.before.before.before.before.before.before.requires.0.sized.laid.one_count))
-    (λ c. omega (arith, c.before.before.before.before.before.before.before.before.before.before.before.before.before.before.before.before.before.before.before.before.before.before.before.before.before.requires.1.sized.laid.one_count))
+    (λ c. omega (arith, c.requires.0.sized.laid.one_count))
+    (λ c. omega (arith, c.requires.1.sized.laid.one_count))
     (λ c. search rules)
     (λ c. search rules)
     (λ c. search rules)

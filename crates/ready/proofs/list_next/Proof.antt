@@ -12,31 +12,31 @@ use borrow.Author.Rules.{rules}
 use Rattle.ready.proofs.list_next.Statement.{statement}
 use Rattle.ready.proofs.list_next.Tie as tie
 
-cast_k : tie.Need-overflow-cast-k
+cast_k : tie.Need-overflow_cast-k
 cast_k c = omega (arith, turn_in c.before.before.before.before.before.before.before.requires)
 
-mul_p : tie.Need-overflow-mul-p
+mul_p : tie.Need-overflow_mul-p
 mul_p c = omega (arith, turn_in c.before.before.before.before.before.before.before.requires, c.before.before.before.before.before.before.before.requires.asked.small)
 
-add_is_known : tie.Need-overflow-add-is-known
+add_is_known : tie.Need-overflow_add-p
 add_is_known c = omega (arith, turn_in c.before.before.before.before.before.before.before.requires, c.before.before.before.before.before.before.before.requires.asked.small)
 
-part_is_known_end : tie.Need-slice-bounds-is-known-end
+part_is_known_end : tie.Need-slice_bounds-is_known-end
 part_is_known_end c = omega (arith, turn_hash_in c.before.before.before.before.before.before.before.requires)
 
-returns : tie.Need-returns
-returns c = turn_known c.before.before.before.before.before.before.before.before.before.before.requires (sym (rw hash_part at c.before.is_Known.ensures) ∙ c.if1.true)
+returns : tie.Need-returns-then-is_known
+returns c = turn_known c.before.before.before.before.before.before.before.before.before.before.requires (sym (rw hash_part at c.before.is_known.ensures) ∙ c.if-is_known.true)
 
-unknown : (c : tie.Else1)
+unknown : (c : tie.Else-is_known)
     → let st = c.before.before.before.before.before.before.before.before.before.before in
     known_in st.args.graph.now st.args.n (hash_at st.args.hashes.now (get_or st.args.order.now st.args.c 0)) ≡ false
-unknown c = sym (rw hash_part at c.before.is_Known.ensures) ∙ c.if1.false
+unknown c = sym (rw hash_part at c.before.is_known.ensures) ∙ c.if-is_known.false
 
-list_freed_requires : tie.Need-list-freed-requires
+list_freed_requires : tie.Need-list_freed-requires
 list_freed_requires c κs = turn_freeable c.before.before.before.before.before.before.before.before.before.before.before.before.requires (unknown c.before.before)
 
-returns_2 : tie.Need-returns-2
-returns_2 c = turn_passed c.before.before.before.before.before.before.before.before.before.before.before.before.before.before.before.before.before.requires (unknown c.before.before.before.before.before.before.before) c.before.before.before.before.list-freed.ensures
+returns_2 : tie.Need-returns
+returns_2 c = turn_passed c.before.before.before.before.before.before.before.before.before.before.before.before.before.before.before.before.before.requires (unknown c.before.before.before.before.before.before.before) c.before.before.before.before.list_freed.ensures
 
 pub list_next_spec : {M : Type 1} → statement M
 list_next_spec =

@@ -9,17 +9,17 @@ use Rattle.waiting.specs.Taken.{closed_out}
 use Rattle.release.proofs.give_out.Statement.{statement}
 use Rattle.release.proofs.give_out.Tie as tie
 
-close_up_requires : tie.Need-close-up-requires
-close_up_requires c κs = let v = c.before.before.before.before.before.before.before.before.before.before.before.before.before.before.before.before.before.before.before.before.before.before.before.before.before.requires.0 in (valid_rooms v, (v.few, (valid_small v, c.before.before.before.before.before.before.before.before.before.before.before.before.before.before.before.before.before.before.before.before.before.before.before.before.before.requires.1.0.fits)))
+close_up_requires : tie.Need-close_up-w-requires
+close_up_requires c κs = let v = c.requires.0 in (valid_rooms v, (v.few, (valid_small v, c.requires.1.0.fits)))
 
-cast_count : tie.Need-overflow-cast-count
-cast_count c = omega (arith, closed_most c.before.before.before.before.before.before.close_up.ensures, valid_small c.before.before.before.before.before.before.before.before.before.before.before.before.before.before.before.before.before.before.before.before.before.before.before.before.before.before.before.before.before.before.before.before.requires.0)
+cast_count : tie.Need-overflow_cast-count
+cast_count c = omega (arith, closed_most c.close_up-w.ensures, valid_small c.requires.0)
 
-slice_write_count : tie.Need-slice-write-count
-slice_write_count c = omega (arith, c.before.before.before.before.before.before.before.before.before.before.before.before.before.before.before.before.before.before.before.before.before.before.before.before.before.before.before.before.before.before.before.before.requires.0.sized.laid.one_count)
+slice_write_count : tie.Need-bounds-count-0-2
+slice_write_count c = omega (arith, c.requires.0.sized.laid.one_count)
 
 returns : tie.Need-returns
-returns c = (c.before.before.before.before.before.before.before.before.before.before.before.before.before.before.before.before.copy-list.ensures, closed_out _ c.before.before.before.before.before.before.close_up.ensures refl)
+returns c = (c.copy_list.ensures, closed_out _ c.close_up-w.ensures refl)
 
 pub give_out_spec : {M : Type 1} → statement M
 give_out_spec =

@@ -9,32 +9,30 @@ use Rattle.release.specs.ReleaseLaws.{valid_askable, ready_most, ready_count, re
 use Rattle.release.proofs.release_ready.Statement.{statement}
 use Rattle.release.proofs.release_ready.Tie as tie
 
-ready_order_requires : tie.Need-ready-order-requires
-ready_order_requires c κs = let st = c.before.before.before.before.before.before.before.before.before.before.before.before.before in (valid_askable _ _ st.requires.0 st.requires.1, valid_small st.requires.1)
+ready_order_requires : tie.Need-ready_order-r-requires
+ready_order_requires c κs = (valid_askable _ _ c.requires.0 c.requires.1, valid_small c.requires.1)
 
 roomy_requires : tie.Need-roomy-requires
 roomy_requires c κs =
-    let st = c.before.before.before.before.before.before.before.before.before.before.before.before.before.before.before in
-    omega (arith, ready_most st.args.count.now c.before.ready-order.ensures, valid_small st.requires.1)
+    omega (arith, ready_most c.args.count.now c.ready_order-r.ensures, valid_small c.requires.1)
 
-give_out_requires : tie.Need-give-out-requires
+give_out_requires : tie.Need-give_out-requires
 give_out_requires c κs =
-    let st = c.before.before.before.before.before.before.before.before.before.before.before.before.before.before.before.before.before.before.before.before.before.before.before.before.before in
-    let ordered = c.before.before.before.before.before.before.before.before.before.before.before.ready-order.ensures in
-    (st.requires.1, (ready_listable _ ordered st.requires.1 (omega (arith, ordered.list_length, valid_small st.requires.1)), roomy_rooms _ _ _ _ (sym c.before.before.before.before.before.before.before.before.before.roomy.ensures ∙ c.before.before.before.before.before.before.before.before.if1.true)))
+    let ordered = c.ready_order-r.ensures in
+    (c.requires.1, (ready_listable _ ordered c.requires.1 (omega (arith, ordered.list_length, valid_small c.requires.1)), roomy_rooms _ _ _ _ (sym c.roomy.ensures ∙ c.if-roomy.true)))
 
-returns : tie.Need-returns
+returns : tie.Need-returns-then-roomy
 unfolding ReleasedTo
 returns c =
-    let ordered = c.before.before.before.before.before.before.before.before.before.before.before.before.before.before.before.before.before.before.before.before.before.before.before.before.before.before.ready-order.ensures in
-    let out = c.before.before.before.before.before.before.before.before.before.before.before.before.before.before.give-out.ensures in
-    (released_all _ _ _ _ _ (ready_count _ ordered) (sym c.before.before.before.before.before.before.before.before.before.before.before.before.before.before.before.before.before.before.before.before.before.before.before.before.roomy.ensures ∙ c.before.before.before.before.before.before.before.before.before.before.before.before.before.before.before.before.before.before.before.before.before.before.before.if1.true), given_out _ ordered out.0 out.1)
+    let ordered = c.ready_order-r.ensures in
+    let out = c.give_out.ensures in
+    (released_all _ _ _ _ _ (ready_count _ ordered) (sym c.roomy.ensures ∙ c.if-roomy.true), given_out _ ordered out.0 out.1)
 
-returns_2 : tie.Need-returns-2
+returns_2 : tie.Need-returns
 unfolding ReleasedTo
 returns_2 c =
-    let ordered = c.before.before.before.ready-order.ensures in
-    (released_short _ _ _ _ _ (ready_count _ ordered) (sym c.before.roomy.ensures ∙ c.if1.false), record { queue = record { hashes = refl; numbers = refl; deps = refl; count = refl }; hashes = refl; numbers = refl; deps = refl })
+    let ordered = c.ready_order-r.ensures in
+    (released_short _ _ _ _ _ (ready_count _ ordered) (sym c.roomy.ensures ∙ c.if-roomy.false), record { queue = record { hashes = refl; numbers = refl; deps = refl; count = refl }; hashes = refl; numbers = refl; deps = refl })
 
 pub release_ready_spec : {M : Type 1} → statement M
 release_ready_spec =

@@ -10,26 +10,26 @@ use Rattle.waiting.specs.ValidLaws.{actor_start, actor_next, actor_hit_both}
 use Rattle.waiting.proofs.has_pair.Statement.{statement}
 use Rattle.waiting.proofs.has_pair.Tie as tie
 
-abbrev invariant_loop : tie.invariant-loop
+abbrev invariant_loop : tie.invariant-loop-i
 invariant_loop numbers n key seq i₀ i =
     (i ≤ n) × (has_actor_seq_in numbers i key seq ≡ false)
 
-abbrev decreases_loop : tie.decreases-loop
+abbrev decreases_loop : tie.decreases-loop-i
 decreases_loop numbers n key seq i₀ i = n - i
 
-loop_holds : tie.Need-loop-init invariant_loop decreases_loop
+loop_holds : tie.Need-loop-i-init invariant_loop decreases_loop
 loop_holds c = (search rules, actor_start _ _ _)
 
-returns : tie.Need-returns invariant_loop decreases_loop
-returns c = sym (actor_hit_both _ _ _ _ _ c.before.before.before.before.loop-test.true (sym c.before.both.ensures ∙ c.if1.true))
+returns : tie.Need-returns-then-both invariant_loop decreases_loop
+returns c = sym (actor_hit_both _ _ _ _ _ c.before.before.before.before.loop-i-test.true (sym c.before.both.ensures ∙ c.if-both.true))
 
-loop_again : tie.Need-loop-preserved invariant_loop decreases_loop
-loop_again c = (omega arith, actor_next _ _ _ _ c.before.before.before.before.before.loop.invariant.1 (sym c.before.both.ensures ∙ c.if1.false))
+loop_again : tie.Need-loop-i-preserved invariant_loop decreases_loop
+loop_again c = (omega arith, actor_next _ _ _ _ c.before.before.before.before.before.loop-i.invariant.1 (sym c.before.both.ensures ∙ c.if-both.false))
 
-returns_2 : tie.Need-returns-2 invariant_loop decreases_loop
+returns_2 : tie.Need-returns invariant_loop decreases_loop
 returns_2 c =
-    let e : c.before.before.before.args.n ≡ c.before.loop.i = omega arith in
-    rw e (sym c.before.loop.invariant.1)
+    let e : c.before.before.before.args.n ≡ c.before.loop-i.i = omega arith in
+    rw e (sym c.before.loop-i.invariant.1)
 
 pub has_pair_spec : {M : Type 1} → statement M
 has_pair_spec =
