@@ -1,16 +1,16 @@
 -- A line written in three parts, one after the other.
 -- Assumes nothing.
-use Rattle.std.specs.Prelude.{◌≡◌, List, [], ◌∷◌, ◌++◌, Bool, true, false, cond, ℕ, ◌+◌, ◌<◌, ◌≤◌, leb, length}
+use Rattle.std.specs.Prelude.{◌≡◌, List, [], ◌∷◌, ◌++◌, ℕ, ◌+◌, ◌<◌, ◌≤◌, length}
 use Rattle.std.proofs.Math.Path.{refl}
-use Rattle.std.proofs.Common.{sym, ap, ◌∙◌, arith, length-append}
+use Rattle.std.proofs.Common.{ap, ◌∙◌, arith, length-append}
 use Rattle.std.proofs.lemmas.Bool.{lt-leb}
-use Rattle.list_laws.specs.Over.{over, over_length}
+use Rattle.list_laws.specs.Over.{over_length}
 use Rattle.paper.specs.Bytes.{bytes}
 use Rattle.paper.specs.Text.{digits_by, digits_of}
 use Rattle.paper.specs.Command.{heads_word, clock_word, missing_word, owner_word, add_word}
 use Rattle.paper.specs.Session.{answer_line, bad_text}
 use Rattle.print.specs.Print.{put_answer, put_buffer, Written}
-use Rattle.print.specs.ThenLaws.{Fitted, fitted, not_fitted, then_next, then_full}
+use Rattle.print.specs.ThenLaws.{fitted, not_fitted, then_next, then_full}
 use Rattle.print.specs.declared.Put.{Put}
 use Rattle.print.specs.declared.Put.TheVariants.{Next, Full}
 use Rattle.reply.specs.Said.{Said}

@@ -1,5 +1,7 @@
 // The answer lines of a session: a word, a tab, what is answered, and LF. Each goes into the answer buffer at `at`, and the place past it is handed back.
 // Where a line does not fit, the answer is that it is full; what was written of it stays for the session to clear.
+#![tactic(auto)]
+
 ghost use Rattle.std.specs.Prelude.{◌≡◌, List, [], ◌∷◌, ◌++◌, ◌*◌, ◌≤◌, ◌<◌, length};
 ghost use Rattle.paper.specs.Lists.{hashes_from};
 ghost use Rattle.paper.specs.Text.{digits_of, hex_of, clock_text, list_text};

@@ -3,14 +3,14 @@
 use Rattle.std.proofs.Math.Path.{◌≡◌, ap}
 use Rattle.std.specs.Prelude.{refl, Bool, true, false, cond, ℕ, suc, ◌+◌, ◌≤◌, ◌<◌, leb}
 use Rattle.std.proofs.Common.{sym, ◌∙◌, subst, add-one, arith}
-use mathlib.Core.List.{List, [], ◌∷◌, ◌++◌, append-nil, append_assoc}
+use mathlib.Core.List.{List, [], ◌++◌, append-nil, append_assoc}
 use Rattle.std.proofs.Math.ListN.{length, length-append}
 use borrow.Author.Tests.{le-leb, lt-leb, leb-true, leb-false}
 use Rattle.paper.specs.Adding.{Hub}
 use Rattle.paper.specs.Command.{Command, heads, clock, missing, owner, add, bad, command_of}
-use Rattle.paper.specs.Session.{Phase, asking, ended, PhaseAfter, bad_text, bad_line, answer, after_command, asked_line, short_line, long_line, line_step, ending, answers}
+use Rattle.paper.specs.Session.{asking, bad_text, bad_line, answer, after_command, asked_line, short_line, line_step, ending, answers}
 use Rattle.paper.proofs.Same.{SameHub, hub_trans}
-use Rattle.list_laws.specs.Over.{over, over_none, over_over}
+use Rattle.list_laws.specs.Over.{over_none, over_over}
 use Rattle.text.specs.Parts.{part, parts_from}
 use Rattle.text.specs.Answers.{line_at}
 use Rattle.text.specs.declared.Cursor.{Cursor}

@@ -10,7 +10,7 @@ use Rattle.paper.specs.Bytes.{bytes}
 use Rattle.paper.specs.Lists.{same_list}
 use Rattle.paper.specs.Text.{parted, decimal_of, given, next, last}
 use Rattle.paper.specs.Command.{header, actors_word, in_range, actors_by, actors_of}
-use Rattle.paper.specs.Session.{Phase, first, second, asking, ended, bench, bad_text, bad_line, first_line, second_line, short_line, long_line, line_step, ending, answers, session}
+use Rattle.paper.specs.Session.{first, second, asking, ended, bench, bad_text, bad_line, first_line, second_line, short_line, long_line, line_step, ending, answers, session}
 use Rattle.text.specs.Parts.{part, parts_from}
 use Rattle.text.specs.PartsLaws.{parts_start, part_length_lem, same_lengths}
 use Rattle.text.specs.Answers.{line_at}

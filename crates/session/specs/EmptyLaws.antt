@@ -1,16 +1,15 @@
 -- Zeroed tables of the bench room hold an empty graph.
 -- Assumes nothing.
-use Rattle.std.specs.Prelude.{◌≡◌, ℕ, ◌/◌, ◌≤◌, ◌<◌, length}
+use Rattle.std.specs.Prelude.{◌≡◌, ℕ, ◌/◌, ◌≤◌, ◌<◌}
 use Rattle.std.proofs.Math.Path.{refl, sym}
 use Rattle.std.proofs.Common.{ap, ◌∙◌}
 use native.Mathlib.Omega.{arith}
 use Rattle.paper.specs.Session.{bench}
 use Rattle.paper.proofs.Same.{SameHub}
-use Rattle.tables.specs.Tables.{Tables, changes, edges, actors, change_room_of, actor_room, width_of}
-use Rattle.tables.specs.Valid.{Lengths, Valid}
+use Rattle.tables.specs.Tables.{Tables, changes, actors, change_room_of, actor_room, width_of}
+use Rattle.tables.specs.Valid.{Lengths}
 use Rattle.judge.specs.Hub.{hub}
 use Rattle.graph.specs.Life.{opened_valid}
-use Rattle.session_line.specs.Step.{Bench}
 use Rattle.session.specs.Ask.{Fresh, Empty}
 
 module _ (t : Tables) (n : ℕ) (r : Empty t n) where

@@ -1,14 +1,13 @@
 -- The answer buffer of a whole session: its number, its length as it is told, and what stands in it.
 -- Assumes nothing.
-use Rattle.std.specs.Prelude.{◌≡◌, List, [], ◌∷◌, ◌++◌, Bool, true, false, cond, ℕ, ◌+◌, ◌≤◌, ◌<◌, leb, take, drop, replicate}
+use Rattle.std.specs.Prelude.{◌≡◌, List, true, false, ℕ, ◌+◌, ◌≤◌, ◌<◌, replicate}
 use Rattle.std.proofs.Math.Path.{refl}
-use Rattle.std.proofs.Common.{sym, ap, ◌∙◌, le-leb}
+use Rattle.std.proofs.Common.{ap, ◌∙◌, le-leb}
 use native.Mathlib.Omega.{arith}
 use Rattle.std.proofs.Math.ListN.{length}
 use Rattle.std.proofs.lemmas.Bool.{lt-leb}
 use Rattle.paper.specs.Session.{number_in, length_in, buffer_in}
 use Rattle.list_laws.specs.Over.{over}
-use Rattle.print.specs.Print.{put_answer}
 use Rattle.print.specs.declared.Put.{Put}
 use Rattle.print.specs.declared.Put.TheVariants.{Next, Full}
 use Rattle.reply.specs.Said.{Said}

@@ -1,10 +1,10 @@
 -- The next line of the input, and what it does to the answer that is still to come.
 -- Assumes nothing.
-use Rattle.std.specs.Prelude.{◌≡◌, refl, List, [], ◌∷◌, ◌++◌, Bool, true, false, cond, ℕ, zero, suc, ◌+◌, ◌-◌, ◌≤◌, ◌<◌, leb, ltb, length, take, drop}
-use Rattle.std.proofs.Common.{sym, ap, ◌∙◌, arith, le-leb, leb-true, leb-false, ltb-true, ltb-false}
+use Rattle.std.specs.Prelude.{◌≡◌, refl, List, [], ◌∷◌, ◌++◌, Bool, true, false, cond, ℕ, suc, ◌+◌, ◌-◌, ◌≤◌, ◌<◌, leb, ltb, length}
+use Rattle.std.proofs.Common.{◌∙◌, arith, le-leb, leb-true, leb-false, ltb-true, ltb-false}
 use Rattle.std.proofs.Math.ListN.{drop_of_length-le}
 use Rattle.paper.specs.Text.{parted}
-use Rattle.paper.specs.Session.{Phase, first, second, asking, ended, PhaseAfter, bad_text, bad_line, long_line, line_step, ending, answers}
+use Rattle.paper.specs.Session.{Phase, first, second, asking, ended, bad_text, bad_line, long_line, line_step, ending, answers}
 use Rattle.paper.proofs.Session.{long_first}
 use Rattle.text.specs.Parts.{end_of, part, parts_from}
 use Rattle.text.specs.PartsLaws.{parts_at, parts_out, part_length_lem, end_bounds}

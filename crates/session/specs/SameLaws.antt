@@ -1,14 +1,14 @@
 -- Graphs that agree on their nodes give a session the same answers.
 -- Assumes nothing.
-use Rattle.std.specs.Prelude.{◌≡◌, Bool, true, false, not, cond, ℕ, zero, suc, ◌≤◌, ◌<◌, eqb, ltb}
+use Rattle.std.specs.Prelude.{◌≡◌, true, ℕ, zero, suc, eqb, ltb}
 use Rattle.std.proofs.Math.Path.{refl, ap}
 use Rattle.std.proofs.Common.{sym, ap₂, ◌∙◌, arith, eq-eqb, ltb-true}
 use mathlib.Core.List.{List, [], ◌∷◌, ◌++◌, map}
-use Rattle.paper.specs.Lists.{mem, pick, each_below}
-use Rattle.paper.specs.Text.{list_text, clock_text, hex_of, digits_of}
+use Rattle.paper.specs.Lists.{mem, each_below}
+use Rattle.paper.specs.Text.{list_text, clock_text, hex_of}
 use Rattle.paper.specs.Graph as graph
 use Rattle.paper.specs.Graph.{Graph, nodes, above, ValidGraph}
-use Rattle.paper.specs.Adding.{Hub, judged}
+use Rattle.paper.specs.Adding.{Hub}
 use Rattle.paper.specs.Command.{Command, heads, clock, missing, owner, add, bad, heads_word, clock_word, missing_word, owner_word, add_word}
 use Rattle.paper.specs.Session.{answer_line, verdict_text, owner_text, entries, missed, change_of, answer, after_command}
 use Rattle.paper.proofs.Bools.{by_bool, or_left, or_right, pick_mem}

@@ -1,7 +1,7 @@
 -- One turn of the loop: what the answer of `step` makes of the lines that ask.
 -- Assumes nothing.
-use Rattle.std.specs.Prelude.{◌≡◌, refl, List, true, ℕ, ◌+◌, ◌-◌, ◌≤◌, ◌<◌, length}
-use Rattle.std.proofs.Common.{subst, arith}
+use Rattle.std.specs.Prelude.{◌≡◌, refl, List, ℕ, ◌+◌, ◌≤◌, ◌<◌, length}
+use Rattle.std.proofs.Common.{subst}
 use Rattle.paper.specs.Command.{command_of}
 use Rattle.paper.specs.Session.{bench, asking, bad_text, answers}
 use Rattle.text.specs.Parts.{part, parts_from}

@@ -1,4 +1,6 @@
 // The text session: a change list in, its answers out.
+#![tactic(auto)]
+
 ghost use Rattle.std.specs.Prelude.{◌≡◌, ◌++◌, ◌≤◌, length};
 ghost use Rattle.paper.specs.Session.{first, second, asking, bench, line_step, answers, session, number_in, length_in, buffer_in};
 ghost use Rattle.text.specs.Parts.{part, parts_from};
@@ -15,7 +17,7 @@ use session_line::Told;
 use text::{Cursor, Next};
 
 // What the first two lines say: how many actors there are, and where the third line starts; or that line 1 or 2 is bad.
-#[derive(Drop)]
+#[derive(Clone, Copy)]
 pub enum Begin {
     Opens(u64, Cursor),
     Bad(u64),

@@ -1,4 +1,6 @@
 // One line of a session that asks: what it does to the tables, and its answer line.
+#![tactic(auto)]
+
 ghost use Rattle.std.specs.Prelude.{◌≡◌, List, [], ◌∷◌, ◌%◌, ◌≤◌, length};
 ghost use Rattle.paper.specs.Lists.{hashes_of};
 ghost use Rattle.paper.specs.Adding.{judged};
@@ -21,7 +23,7 @@ use judge::Judged;
 use print::Put;
 
 // What one line gives: the place past its answer, that the answer does not fit, or that it is no line that asks.
-#[derive(Drop)]
+#[derive(Clone, Copy)]
 pub enum Told {
     Said(usize),
     Full,

@@ -6,7 +6,10 @@ use Rattle.reply.proofs.put_no_owner.Statement.{statement}
 use Rattle.reply.proofs.put_no_owner.Tie as tie
 
 returns : tie.Need-returns
-returns c = rw no_owner_whole (said_written _ _ _ _ _ c.before.before.put-bytes.ensures)
+returns c = rw no_owner_whole (said_written _ _ _ _ _ c.before.before.put_bytes.ensures)
 
 pub put_no_owner_spec : {M : Type 1} → statement M
-put_no_owner_spec = tie.close (tie.spec (λ c. search rules) (λ c κs. search rules) (λ c. search rules) returns)
+put_no_owner_spec = tie.close (tie.spec
+    (λ c κs. search rules)
+    (λ c. search rules)
+    returns)

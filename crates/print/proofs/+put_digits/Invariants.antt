@@ -1,0 +1,5 @@
+-- The measure of the recursion is v.
+use Rattle.print.proofs.+put_digits.Given as goal
+
+abbrev pub decreases-put_digits : goal.decreases-put_digits
+decreases-put_digits l = l.v
