@@ -3,7 +3,7 @@
 use Rattle.std.specs.Prelude.{◌≡◌, refl, List, [], ◌∷◌, true, false, ℕ, replicate}
 use Rattle.clock.specs.Clock.{joined, covers_all}
 use Rattle.clock.specs.declared.Entry.TheVariants.{Sequence, Nothing}
-use Rattle.clock_checked.specs.Told.{EntriesLeft, entries_left, clock_number, clock_lendable, get_told, include_told, merge_told, covers_told, isolate_told, op_told, insert_told, remove_told, after_told, before_told}
+use Rattle.clock_checked.specs.Told.{entries_left, clock_number, clock_lendable, get_told, include_told, merge_told, covers_told, isolate_told, op_told, insert_told, remove_told, after_told, before_told}
 use Rattle.clock.specs.declared.Range.TheVariants.{Current, CurrentAt}
 use Rattle.clock_checked.specs.declared.Got.TheVariants as got
 use Rattle.clock_checked.specs.declared.Answer.TheVariants.{Done, Yes, No, NotValid, NoPlace, NoRoom}

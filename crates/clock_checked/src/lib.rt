@@ -1,12 +1,14 @@
 // Clocks as they are lent: a slice of entries, and the count of those in use. Nothing is asked of either: more than 64 entries, a count above them, a place not
 // below the count and whatever else is refused get an answer of their own, and leave every entry as it was.
+#![tactic(auto)]
+
 ghost use Rattle.std.specs.Prelude.{◌≡◌, ◌&&◌};
 ghost use Rattle.clock_checked.specs.Told.{entries_left, clock_lendable, clock_number, number_got, slice_yes_in, get_told, include_told, merge_told, covers_told, isolate_told, op_told, insert_told, remove_told, after_told, before_told};
 
 use clock::{Entry, Range};
 
 // What an operation on lent clocks answers.
-#[derive(Drop)]
+#[derive(Clone, Copy)]
 pub enum Answer {
     // done; of a question, yes or no
     Done,
@@ -21,7 +23,7 @@ pub enum Answer {
 }
 
 // The entry at a place, or that the clock is not valid.
-#[derive(Drop)]
+#[derive(Clone, Copy)]
 pub enum Got {
     Entry(u32),
     NotValid,

@@ -1,5 +1,7 @@
 // A clock of 64 entries, lent by `&mut` and changed where it lies: thin functions over a covered core on its entries. They have no branch of their own;
 // the core decides everything, the number included. A yes or no is told in a lent place, which every number but 0 leaves as it was. In C a `&mut Clock` is a `cg_clock *`.
+#![tactic(auto)]
+
 ghost use Rattle.std.specs.Prelude.{◌≡◌};
 ghost use Rattle.clock.specs.declared.Entry.TheVariants.{Sequence};
 ghost use Rattle.clock_checked.specs.Told.{SliceAsked, include_told, covers_told};
@@ -9,7 +11,7 @@ use clock::Entry;
 
 // The first `count` entries are in use. A count above 64 is no valid clock, and answers 1.
 #[repr(C)]
-#[derive(Drop)]
+#[derive(Clone, Copy)]
 pub struct Clock {
     pub entries: [u32; 64],
     pub count: u32,

@@ -1,13 +1,12 @@
 -- The walk along next: what is put down so far, and what is left. On valid tables it gives a node's dependencies.
 -- Assumes nothing.
-use Rattle.std.specs.Prelude.{◌≡◌, refl, Bool, true, false, ◌&&◌, not, cond, List, [], ◌∷◌, ◌++◌, map, ℕ, zero, suc, ◌+◌, ◌-◌, ◌<◌, ◌≤◌, ◌^◌, min, T, ltb, leb, eqb, length, get_or, set, take, drop}
-use Rattle.std.proofs.Common.{sym, ◌∙◌, ap, subst, append_assoc, append-nil, add-one, arith, T_not, leb→le, ltb→lt, length-set, length-append, take-append-drop, length-drop, take-suc-set, drop-set-lt, ne_eqb, le-leb, lt-ltb}
+use Rattle.std.specs.Prelude.{◌≡◌, refl, Bool, true, ◌&&◌, not, List, [], ◌∷◌, ◌++◌, map, ℕ, zero, suc, ◌+◌, ◌-◌, ◌<◌, ◌≤◌, ◌^◌, min, T, ltb, leb, eqb, length, get_or, set, take, drop}
+use Rattle.std.proofs.Common.{sym, ◌∙◌, ap, subst, append_assoc, append-nil, add-one, arith, leb→le, ltb→lt, length-set, length-append, take-append-drop, length-drop, take-suc-set, drop-set-lt, ne_eqb, le-leb, lt-ltb}
 use Rattle.std.proofs.Math.Decide.{dec_lt}
 use Rattle.std.proofs.Math.ListN.{get_or-map}
-use Rattle.std.proofs.Math.Seq.{slice}
 use Rattle.std.proofs.Math.Facts.{and_yes}
 use Rattle.std.proofs.lemmas.Bool.{lt-leb}
-use Rattle.tables.specs.Tables.{Tables, changes, first_at, links, along, graph}
+use Rattle.tables.specs.Tables.{changes, first_at, links, along, graph}
 use Rattle.tables.specs.Valid.{Run, Sound}
 use Rattle.tables.specs.Valid.Run.{last, more}
 use Rattle.tables.specs.LaidLaws.{NodeLaid, run_grows}
@@ -155,7 +154,7 @@ run_left es k {c} {d} (more h e r) l (suc f) =
     let n : c + 2 ≡ suc (c + 1) = omega arith in
     let a : get_or (insides es) c 0 ≡ suc (c + 1) = inside_at es c ∙ ap (inside (length es)) (next_at es c ∙ e ∙ n) ∙ inside_in (length es) (suc (c + 1)) (omega arith) in
     ap (λ (x : ℕ). get_or (targets_of es) c 0 ∷ links (targets_of es) (insides es) f x) a
-    ∙ ap (λ (s : List ℕ). get_or (targets_of es) c 0 ∷ s) (run_left es k r l f)
+    ∙ ap (λ (s : List ℕ). get_or (targets_of es) c 0 ∷ s) (run_left es k {c = c + 1} r l f)
     ∙ ap (λ (x : ℕ). get_or (targets_of es) c 0 ∷ links (targets_of es) (nexts_of es) f x) (sym (e ∙ n))
 
 -- on valid tables the walk from a node's first edge gives that node's dependencies

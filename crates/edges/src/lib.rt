@@ -1,11 +1,13 @@
 // The edge table as the caller lends it: records of target and next.
 // The cores work on two plain tables; `unpack` and `pack` go between the two forms, and `parents_into` walks the records themselves.
+#![tactic(auto)]
+
 ghost use Rattle.std.specs.Prelude.{◌≡◌, ◌++◌, ℕ, ◌<◌, ◌≤◌, ◌-◌, min, length, set, get_or, drop};
 ghost use Rattle.edges.specs.Edges.{no_edge, edge, taken_targets, taken_nexts, packed, goes_on, parents_in};
 
 // An edge: the node that it leads to, and the number + 1 of the next edge of its list, or 0 at the end.
 #[repr(C)]
-#[derive(Drop)]
+#[derive(Clone, Copy)]
 pub struct Edge {
     pub target: u32,
     pub next: u32,

@@ -1,6 +1,8 @@
 // Actors in and out through the C face, over edge records. Each operation checks what it is lent: it has no `requires`.
 // An operation comes in three: `X_checked` checks the tables and calls the core; `X_told` does so with the first e edges of two larger tables;
 // `cg_X` unpacks the records into two such tables and calls `X_told`. No edge changes, so nothing is packed again.
+#![tactic(auto)]
+
 ghost use Rattle.std.specs.Prelude.{◌≡◌, true, ◌↔◌};
 ghost use Rattle.paper.specs.Numbers.{number, not_valid};
 ghost use Rattle.tables.specs.Tables.{tables};

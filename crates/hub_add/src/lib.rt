@@ -1,6 +1,8 @@
 // Adding a change through the C face, over edge records. It checks what it is lent: it has no `requires`.
 // `add_checked` checks the tables and calls the core; `add_told` does so with the first e edges of two larger tables;
 // `cg_add` unpacks the records into two such tables, calls `add_told`, and packs them again.
+#![tactic(auto)]
+
 ghost use Rattle.std.specs.Prelude.{◌≡◌, true, ◌↔◌};
 ghost use Rattle.tables.specs.Tables.{tables};
 ghost use Rattle.tables.specs.Valid.{Valid};

@@ -1,6 +1,8 @@
 // The listed hashes outside the history of heads through the C face, over edge records. It checks what it is lent: it has no `requires`.
 // `remove_ancestors_checked` checks the tables and asks the core; `remove_ancestors_told` does so with the first e edges of two larger tables;
 // `cg_remove_ancestors` unpacks the records into two such tables and calls `remove_ancestors_told`. Nothing changes but the buffer and the place.
+#![tactic(auto)]
+
 ghost use Rattle.std.specs.Prelude.{◌≡◌, true, ◌↔◌};
 ghost use Rattle.tables.specs.Tables.{tables};
 ghost use Rattle.tables.specs.Valid.{Valid};

@@ -6,7 +6,7 @@ use Rattle.list_laws.specs.Iff.{failed}
 use Rattle.paper.specs.Numbers.{number, not_valid}
 use Rattle.tables.specs.Tables.{Tables, edge_room_of}
 use Rattle.tables.specs.Valid.{Valid}
-use Rattle.edges.specs.Told.{Answered, valid_bounding, answered_refused}
+use Rattle.edges.specs.Told.{valid_bounding, answered_refused}
 use Rattle.hub_answer.specs.Asks.{Reply, reply_number, told_by, Says, Untouched, Asks}
 
 module _ {L : Type 0} (of : L → Reply) (answer : Tables → L) (buffer : Tables → List ℕ) (out told : List ℕ) (t : Tables) where

@@ -1,4 +1,6 @@
 // The answers of public questions: the paper's number of an answer, and how much it takes, told to the caller in a lent place.
+#![tactic(auto)]
+
 ghost use Rattle.std.specs.Prelude.{◌≡◌};
 ghost use Rattle.hub_answer.specs.Asks.{reply_number, told_by, of_listed, of_place, of_yes_no, of_bool, gives};
 

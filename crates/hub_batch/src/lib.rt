@@ -1,4 +1,6 @@
 // Opening a queue or a batch, and pushing to a batch, from C. Each function answers the paper's number of what the operation answers.
+#![tactic(auto)]
+
 ghost use Rattle.std.specs.Prelude.{◌≡◌};
 ghost use Rattle.waiting.specs.Valid.{store, store_opened_number};
 ghost use Rattle.batch.specs.Push.{pushed_number};

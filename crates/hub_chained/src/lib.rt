@@ -1,6 +1,8 @@
 // Whether the graph is chained through the C face, over edge records. It checks what it is lent: it has no `requires`.
 // `chained_checked` checks the tables and asks the core; `chained_told` does so with the first e edges of two larger tables;
 // `cg_chained` unpacks the records into two such tables and calls `chained_told`. Nothing changes but the buffer and the place.
+#![tactic(auto)]
+
 ghost use Rattle.std.specs.Prelude.{◌≡◌, true, ◌↔◌, []};
 ghost use Rattle.tables.specs.Tables.{tables};
 ghost use Rattle.tables.specs.Valid.{Valid};

@@ -1,5 +1,7 @@
 // Clocks on slices, from C: the entries and the count of those in use. Each function answers the paper's number of what `clock_checked` answers; a yes or no, and an
 // entry, are told in a lent place, which every number but 0 leaves as it was.
+#![tactic(auto)]
+
 ghost use Rattle.std.specs.Prelude.{◌≡◌};
 ghost use Rattle.clock_checked.specs.Told.{SliceAsked, get_told, op_told, insert_told, remove_told, after_told, before_told};
 ghost use Rattle.hub_clock_slices.specs.Face.{entry_in, SliceGave, SliceChanged, range_of};

@@ -1,6 +1,8 @@
 // Whether a list is that of the heads through the C face, over edge records. It checks what it is lent: it has no `requires`.
 // `heads_are_current_checked` checks the tables and asks the core; `heads_are_current_told` does so with the first e edges of two larger tables;
 // `cg_heads_are_current` unpacks the records into two such tables and calls `heads_are_current_told`. Nothing changes but the buffer and the place.
+#![tactic(auto)]
+
 ghost use Rattle.std.specs.Prelude.{◌≡◌, true, ◌↔◌, []};
 ghost use Rattle.tables.specs.Tables.{tables};
 ghost use Rattle.tables.specs.Valid.{Valid};

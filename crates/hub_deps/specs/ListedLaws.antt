@@ -14,7 +14,8 @@ use Rattle.tables.specs.DepsLaws.{links_end, deps_few}
 use Rattle.edges.specs.Edges.{lent, local_room, taken_targets, taken_nexts, parents, parents_in, targets_of, nexts_of}
 use Rattle.edges.specs.EdgesLaws.{targets_long}
 use Rattle.edges.specs.WalkLaws.{insides, parents_are_deps}
-use Rattle.edges.specs.Told.{cut, valid_bounding, asked_lent}
+use Rattle.edges.specs.Told.{cut, valid_bounding}
+use Rattle.edges.proofs.Told.{asked_lent}
 use Rattle.edges.specs.declared.Edge.{Edge}
 use Rattle.answer_buffer.specs.Room.{room}
 use Rattle.deps.specs.Parents.{edge_of_hash, deps_nodes, DepsListed}

@@ -2,6 +2,8 @@
 // `cg_deps_for_hash` finds where the change's list of edges begins, and has `edges::parents_into` walk it along next over the records themselves: that ends
 // on any tables. Then it unpacks the records into two tables for the check: `deps_for_hash_told` takes the first e edges of these, and
 // `deps_for_hash_checked` checks the tables and tells the hashes of the nodes that the walk put down. Nothing changes but the buffer and the place.
+#![tactic(auto)]
+
 ghost use Rattle.std.specs.Prelude.{◌≡◌, true, ◌↔◌};
 ghost use Rattle.tables.specs.Tables.{tables};
 ghost use Rattle.tables.specs.Valid.{Valid};

@@ -1,6 +1,8 @@
 // Throwing all cached clocks away, from C, over edge records. It checks what it is lent: it has no `requires`.
 // `forget_checked` checks the tables and calls the core; `forget_told` does so with the first e edges of two larger tables;
 // `cg_forget` unpacks the records into two such tables and calls `forget_told`. No edge changes.
+#![tactic(auto)]
+
 ghost use Rattle.std.specs.Prelude.{◌≡◌};
 ghost use Rattle.paper.specs.Numbers.{number, not_valid};
 ghost use Rattle.tables.specs.Tables.{tables};

@@ -1,6 +1,8 @@
 // The sequence clock of a list of hashes through the C face, over edge records. It checks what it is lent: it has no `requires`.
 // `clock_of_checked` checks the tables and asks the core; `clock_of_told` does so with the first e edges of two larger tables;
 // `cg_clock_of` unpacks the records into two such tables and calls `clock_of_told`. Nothing changes but the buffer and the place.
+#![tactic(auto)]
+
 ghost use Rattle.std.specs.Prelude.{◌≡◌, true, ◌↔◌};
 ghost use Rattle.tables.specs.Tables.{tables};
 ghost use Rattle.tables.specs.Valid.{Valid};

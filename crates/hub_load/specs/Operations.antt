@@ -1,6 +1,6 @@
 -- What loading comes to, of the lent tables before and after.
 -- Assumes nothing.
-use Rattle.std.specs.Prelude.{◌≡◌, refl, ℕ, ◌<◌}
+use Rattle.std.specs.Prelude.{refl, ℕ, ◌<◌}
 use Rattle.paper.specs.Numbers.{number, not_valid}
 use Rattle.paper.specs.Loading.{Columns}
 use Rattle.tables.specs.Tables.{Tables, edge_room_of}

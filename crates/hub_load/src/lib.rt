@@ -1,6 +1,8 @@
 // Loading decoded columns into a graph, from C, over edge records. It checks what it is lent: it has no `requires`.
 // `load_checked` checks the lengths and calls the core; `load_told` does so with the first e edges of two larger tables;
 // `cg_load` unpacks the records into two such tables, calls `load_told`, and packs them again.
+#![tactic(auto)]
+
 ghost use Rattle.std.specs.Prelude.{◌≡◌};
 ghost use Rattle.tables.specs.Tables.{tables};
 ghost use Rattle.columns.specs.Columns.{columns};

@@ -1,6 +1,8 @@
 // The missing list for a have-list through the C face, over edge records. It checks what it is lent: it has no `requires`.
 // `missing_checked` checks the tables and asks the core; `missing_told` does so with the first e edges of two larger tables;
 // `cg_missing` unpacks the records into two such tables and calls `missing_told`. Nothing changes but the buffer and the place.
+#![tactic(auto)]
+
 ghost use Rattle.std.specs.Prelude.{◌≡◌, true, ◌↔◌};
 ghost use Rattle.tables.specs.Tables.{tables};
 ghost use Rattle.tables.specs.Valid.{Valid};

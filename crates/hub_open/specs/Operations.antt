@@ -1,7 +1,7 @@
 -- What the graph's public operations come to, of the lent tables before and after.
 -- Assumes nothing.
-use Rattle.std.specs.Prelude.{◌≡◌, refl, List, ℕ, ◌<◌}
-use Rattle.std.proofs.Common.{ap, ◌∙◌}
+use Rattle.std.specs.Prelude.{◌≡◌, List, ℕ, ◌<◌}
+use Rattle.std.proofs.Common.{ap}
 use Rattle.paper.specs.Numbers.{number, not_valid}
 use Rattle.tables.specs.Tables.{Tables, tables, edge_room_of}
 use Rattle.tables.specs.Valid.{Lengths}

@@ -1,6 +1,8 @@
 // The graph's public operations. Each is lent the tables, with the edges as records, and checks what it is lent: it has no `requires`.
 // An operation comes in three: `X_checked` checks the tables and calls the core; `X_told` does so with the first e edges of two larger tables;
 // `cg_X`, the C face, unpacks the records into two such tables, calls `X_told`, and packs them again where they change.
+#![tactic(auto)]
+
 ghost use Rattle.std.specs.Prelude.{◌≡◌};
 ghost use Rattle.paper.specs.Numbers.{number, not_valid};
 ghost use Rattle.tables.specs.Tables.{tables};

@@ -1,5 +1,7 @@
 // The queue from C: taking a batch over, the questions, and dropping an actor's branch. Each function answers the paper's number of what the operation answers.
 // A yes or no, and how many records are handed out, are told in a lent place, which every number but 0 leaves as it was.
+#![tactic(auto)]
+
 ghost use Rattle.std.specs.Prelude.{◌≡◌};
 ghost use Rattle.waiting.specs.Valid.{store};
 ghost use Rattle.queue.specs.Hand.{handed_number};

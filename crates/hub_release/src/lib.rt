@@ -2,6 +2,8 @@
 // `release_known` releases against the first hashes of a table and is called with a checked graph's alone; `release_checked` checks the graph first;
 // `release_told` does so with the first e edges of two larger tables; `cg_release` unpacks the edge records into two such tables and calls `release_told`.
 // No table of the graph changes.
+#![tactic(auto)]
+
 ghost use Rattle.std.specs.Prelude.{◌≡◌};
 ghost use Rattle.paper.specs.Numbers.{number, not_valid};
 ghost use Rattle.tables.specs.Tables.{tables};

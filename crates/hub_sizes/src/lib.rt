@@ -1,6 +1,8 @@
 // How many changes and actors there are, and which actors, through the C face, over edge records. Each question checks what it is lent: it has no `requires`.
 // `X_checked` checks the tables and asks the core; `X_told` does so with the first e edges of two larger tables;
 // `cg_X` unpacks the records into two such tables and calls `X_told`. Nothing changes but the buffer and the place.
+#![tactic(auto)]
+
 ghost use Rattle.std.specs.Prelude.{◌≡◌, true, ◌↔◌, [], length};
 ghost use Rattle.tables.specs.Tables.{tables};
 ghost use Rattle.tables.specs.Valid.{Valid};

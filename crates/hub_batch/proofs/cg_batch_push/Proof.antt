@@ -6,7 +6,7 @@ use Rattle.hub_batch.proofs.cg_batch_push.Statement.{statement}
 use Rattle.hub_batch.proofs.cg_batch_push.Tie as tie
 
 returns : tie.Need-returns
-returns c = let o = c.before.before.before.before.before.before.before.before.before.push.ensures in numbered _ _ _ o.0 c.pushed.ensures o.1
+returns c = let o = c.push.ensures in numbered _ _ _ o.0 c.pushed.ensures o.1
 
 pub cg_batch_push_spec : {M : Type 1} → statement M
 cg_batch_push_spec =

@@ -6,7 +6,7 @@ use Rattle.hub_batch.proofs.cg_queue_open.Statement.{statement}
 use Rattle.hub_batch.proofs.cg_queue_open.Tie as tie
 
 returns : tie.Need-returns
-returns c = let o = c.before.before.before.open-empty.ensures in numbered _ _ _ o.0 c.opened.ensures o.1
+returns c = let o = c.open_empty.ensures in numbered _ _ _ o.0 c.opened.ensures o.1
 
 pub cg_queue_open_spec : {M : Type 1} → statement M
 cg_queue_open_spec =

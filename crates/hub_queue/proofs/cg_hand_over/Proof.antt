@@ -6,7 +6,7 @@ use Rattle.hub_queue.proofs.cg_hand_over.Statement.{statement}
 use Rattle.hub_queue.proofs.cg_hand_over.Tie as tie
 
 returns : tie.Need-returns
-returns c = let o = c.before.before.before.before.before.before.before.before.before.before.before.hand-over.ensures in numbered _ _ _ o.0 c.handed.ensures o.1
+returns c = let o = c.hand_over.ensures in numbered _ _ _ o.0 c.handed.ensures o.1
 
 pub cg_hand_over_spec : {M : Type 1} → statement M
 cg_hand_over_spec =

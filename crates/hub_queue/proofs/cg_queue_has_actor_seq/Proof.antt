@@ -6,7 +6,7 @@ use Rattle.hub_queue.proofs.cg_queue_has_actor_seq.Statement.{statement}
 use Rattle.hub_queue.proofs.cg_queue_has_actor_seq.Tie as tie
 
 returns : tie.Need-returns
-returns c = numbered _ _ _ c.before.before.before.before.before.has-actor-seq.ensures c.asked.ensures c.before.before.before.tell_yes.ensures
+returns c = numbered _ _ _ c.has_actor_seq-a.ensures c.asked.ensures c.tell_yes.ensures
 
 pub cg_queue_has_actor_seq_spec : {M : Type 1} → statement M
 cg_queue_has_actor_seq_spec =

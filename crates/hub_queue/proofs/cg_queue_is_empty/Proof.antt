@@ -6,7 +6,7 @@ use Rattle.hub_queue.proofs.cg_queue_is_empty.Statement.{statement}
 use Rattle.hub_queue.proofs.cg_queue_is_empty.Tie as tie
 
 returns : tie.Need-returns
-returns c = numbered _ _ _ c.before.before.before.before.before.is-empty.ensures c.asked.ensures c.before.before.before.tell_yes.ensures
+returns c = numbered _ _ _ c.is_empty-a.ensures c.asked.ensures c.tell_yes.ensures
 
 pub cg_queue_is_empty_spec : {M : Type 1} → statement M
 cg_queue_is_empty_spec =

@@ -6,7 +6,7 @@ use Rattle.hub_queue.proofs.cg_queue_iter.Statement.{statement}
 use Rattle.hub_queue.proofs.cg_queue_iter.Tie as tie
 
 returns : tie.Need-returns
-returns c = let o = c.before.before.before.before.before.before.before.before.before.before.before.iter.ensures in numbered _ _ _ o.0 c.listed.ensures (o.1, c.before.before.before.tell-count.ensures)
+returns c = let o = c.iter-a.ensures in numbered _ _ _ o.0 c.listed.ensures (o.1, c.tell_count.ensures)
 
 pub cg_queue_iter_spec : {M : Type 1} → statement M
 cg_queue_iter_spec =

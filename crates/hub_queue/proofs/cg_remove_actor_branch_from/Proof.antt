@@ -6,7 +6,7 @@ use Rattle.hub_queue.proofs.cg_remove_actor_branch_from.Statement.{statement}
 use Rattle.hub_queue.proofs.cg_remove_actor_branch_from.Tie as tie
 
 returns : tie.Need-returns
-returns c = let o = c.before.before.before.before.before.before.before.before.before.remove-actor-branch-from.ensures in numbered _ _ _ o.0 c.removed.ensures o.1
+returns c = let o = c.remove_actor_branch_from.ensures in numbered _ _ _ o.0 c.removed.ensures o.1
 
 pub cg_remove_actor_branch_from_spec : {M : Type 1} → statement M
 cg_remove_actor_branch_from_spec =

@@ -4,14 +4,14 @@ use borrow.Author.Rules.{rules}
 use Rattle.hub_queue.proofs.tell_count.Statement.{statement}
 use Rattle.hub_queue.proofs.tell_count.Tie as tie
 
-returns : tie.Need-returns
-returns c = rw c.before.before.before.before.before.a.given.1 c.before.before.tell.ensures
+returns : tie.Need-returns-in-All
+returns c = rw c.in-All.is c.tell.ensures
 
-returns_2 : tie.Need-returns-2
-returns_2 c = rw c.enum_told.given.1
+returns_2 : tie.Need-returns-in-Short
+returns_2 c = rw c.in-Short.is
 
-returns_3 : tie.Need-returns-3
-returns_3 c = rw c.enum-told2.given.1
+returns_3 : tie.Need-returns-in-NotValid
+returns_3 c = rw c.in-NotValid.is
 
 pub tell_count_spec : {M : Type 1} → statement M
 tell_count_spec =

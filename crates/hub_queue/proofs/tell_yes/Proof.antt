@@ -4,17 +4,17 @@ use borrow.Author.Rules.{rules}
 use Rattle.hub_queue.proofs.tell_yes.Statement.{statement}
 use Rattle.hub_queue.proofs.tell_yes.Tie as tie
 
-returns : tie.Need-returns
-returns c = rw c.before.before.before.before.enum_told.given.1 c.before.before.tell.ensures
+returns : tie.Need-returns-in-Yes
+returns c = rw c.in-Yes.is c.tell.ensures
 
-returns_2 : tie.Need-returns-2
-returns_2 c = rw c.before.before.before.before.enum-told2.given.1 c.before.before.tell2.ensures
+returns_2 : tie.Need-returns-in-No
+returns_2 c = rw c.in-No.is c.tell-in-No.ensures
 
-returns_3 : tie.Need-returns-3
-returns_3 c = rw c.enum-told3.given.1
+returns_3 : tie.Need-returns-in-NotValid
+returns_3 c = rw c.in-NotValid.is
 
-returns_4 : tie.Need-returns-4
-returns_4 c = rw c.enum-told4.given.1
+returns_4 : tie.Need-returns-in-Malformed
+returns_4 c = rw c.in-Malformed.is
 
 pub tell_yes_spec : {M : Type 1} → statement M
 tell_yes_spec =
