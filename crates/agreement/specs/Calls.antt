@@ -9,7 +9,7 @@ use Rattle.paper.specs.Loading.{Columns, judged_load}
 use Rattle.paper.specs.Queue.{has_actor_seq}
 use Rattle.paper.specs.Actors.{judged_open, judged_insert, judged_remove}
 use Rattle.paper.specs.Asking.{judged_look_up, judged_known, judged_index, judged_actor_seq, judged_owner, judged_actors, judged_heads, judged_head_nodes, judged_current, judged_deps, judged_clock, judged_missing, judged_outside}
-use Rattle.paper.specs.Clocks.{clock_lent, judged_lent, judged_place, judged_seen, judged_covers, judged_entry}
+use Rattle.paper.specs.Clocks.{clock_lent, judged_lent, judged_place, judged_seen, judged_covers}
 use Rattle.paper.specs.Pushing.{judged_push, judged_hand_over, judged_release, judged_iter, judged_waits}
 use Rattle.tables.specs.Tables.{Tables, changes, change_room_of, edge_room_of, actor_room, graph}
 use Rattle.tables.specs.Valid.{Lengths, Valid}
@@ -48,13 +48,13 @@ use Rattle.hub_batch.specs.Operations.{QueueOpened, BatchPushed}
 use Rattle.hub_queue.specs.Operations.{store_queue, HandedOver, BranchRemoved, QueueIsEmpty, QueueHasHash, QueueHasActorSeq, QueueGiven}
 use Rattle.hub_release.specs.Operations.{Stock, FreedBy}
 use Rattle.clock.specs.declared.Entry.TheVariants.{Sequence}
-use Rattle.clock_checked.specs.Told.{SliceAsked, get_told, op_told, insert_told, remove_told, after_told, before_told}
+use Rattle.clock_checked.specs.Told.{SliceAsked, get_told, op_told, remove_told, after_told, before_told}
 use Rattle.clock_struct.specs.Clocks.{StructDone, ClockIncluded, ClockMerged, ClockIsolated, ClockCovered}
 use Rattle.hub_clock_slices.specs.Face.{SliceGave, SliceChanged, range_of}
 use Rattle.queue.specs.Asked.{yes_or_no, queue_answer_number}
 use Rattle.agreement.specs.ActorsAgree.{opening_agrees, inserting_agrees, removing_agrees}
 use Rattle.agreement.specs.AskingAgrees.{listed_reply, place_reply, yes_no_reply, look_up_agrees, has_agrees, current_agrees, index_agrees, actor_seq_agrees, owner_agrees, heads_agree, head_nodes_agree, deps_agree, missing_agrees, outside_agrees, clock_agrees, op_clock_agrees, actors_agree}
-use Rattle.agreement.specs.ClocksAgree.{ends_at_clock, begins_at_clock, get_agrees, include_agrees, isolate_agrees, op_agrees, insert_agrees, remove_agrees, merge_agrees, covers_agrees, after_agrees, before_agrees}
+use Rattle.agreement.specs.ClocksAgree.{ends_at_clock, begins_at_clock, get_agrees, include_agrees, isolate_agrees, op_agrees, remove_agrees, merge_agrees, covers_agrees, after_agrees, before_agrees}
 use Rattle.agreement.specs.PushingAgrees.{answer_room, push_agrees, hand_over_agrees, release_agrees, iter_agrees, waits_agrees}
 
 -- where what is lent is valid r is the outcome's number, and else it is 1
@@ -231,9 +231,7 @@ module _ (r : ℕ) (c : List ℕ) (n : ℕ) where
   pub clock_op_covers_gives : (a counter : ℕ) (l l' : List ℕ) → SliceAsked (op_told c n a counter) l r l' → r ≡ number (judged_lent (clock_lent n (length c)) (judged_place n a))
   clock_op_covers_gives a counter l l' p = p.number ∙ op_agrees c n a counter
 
-  pub clock_new_actor_gives : (q : ℕ) (c' : List ℕ) → SliceChanged (insert_told c n q) r c' → r ≡ number (judged_lent (clock_lent n (length c)) (judged_entry (length c) n q))
-  clock_new_actor_gives q c' p = p.number ∙ insert_agrees c n q
-
+  -- (`clock_new_actor_gives`, the same of an actor put in, stands in proofs/NewActorCall.antt)
   pub clock_remove_actor_gives : (q : ℕ) (c' : List ℕ) → SliceChanged (remove_told c n q) r c' → r ≡ number (judged_lent (clock_lent n (length c)) (judged_place n q))
   clock_remove_actor_gives q c' p = p.number ∙ remove_agrees c n q
 

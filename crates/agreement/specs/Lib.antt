@@ -4,4 +4,3 @@ pub mod ClocksAgree
 pub mod PushingAgrees
 pub mod Calls
 pub mod LaidOut
-pub mod ValidAgrees

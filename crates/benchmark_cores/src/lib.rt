@@ -1,6 +1,8 @@
 // Cores under C names, for the benchmarks alone: what an operation costs without the check of what is lent. They have the cores' `requires`, so no host may
 // call them with tables that it has not checked; they are not in libchangegraph.a.
-ghost use Rattle.std.specs.Prelude.{◌≡◌, ◌*◌, ◌≤◌, length};
+#![tactic(auto)]
+
+ghost use Rattle.std.specs.Prelude.{◌≡◌, length};
 ghost use Rattle.paper.specs.Graph.{owner};
 ghost use Rattle.tables.specs.Tables.{tables, graph};
 ghost use Rattle.tables.specs.Valid.{Valid};

@@ -1,2 +1,1 @@
 pub mod DemandThree
-pub mod DemandThreeLaws

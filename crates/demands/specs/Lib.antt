@@ -1,7 +1,6 @@
 pub mod Operations
 pub mod Refusals
 pub mod RefusalLaws
-pub mod OperationLaws
 pub mod Demands
 pub mod Ties
 pub mod Questions
@@ -11,6 +10,4 @@ pub mod ClockLaws
 pub mod Session
 pub mod SessionLaws
 pub mod Adds
-pub mod AddLaws
 pub mod PublicCalls
-pub mod DemandOne

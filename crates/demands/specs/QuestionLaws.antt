@@ -2,7 +2,7 @@
 -- Assumes nothing.
 use Rattle.std.specs.Prelude.{◌≡◌, refl, Bool, true, false, cond, ◌&&◌, List, [], ◌∷◌, ◌++◌, ℕ, ◌*◌, leb, ltb, eqb, length, drop}
 use Rattle.std.proofs.Common.{◌∙◌}
-use Rattle.paper.specs.Numbers.{number, done, not_valid}
+use Rattle.paper.specs.Numbers.{done, not_valid}
 use Rattle.paper.specs.Graph.{Graph, change_at, owner}
 use Rattle.tables.specs.Tables.{Tables, graph}
 use Rattle.answer_buffer.specs.Answers.{list_answer, filled, whole_list, one_hash, node_hash, node_hash_filled}

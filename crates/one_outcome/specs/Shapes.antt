@@ -11,7 +11,7 @@ use Rattle.edges.specs.Edges.{lent}
 use Rattle.edges.specs.EdgesLaws.{same_edges}
 use Rattle.edges.specs.Told.{Checked, Answered}
 use Rattle.edges.specs.declared.Edge.{Edge}
-use Rattle.hub_answer.specs.Asks.{Reply, Asks, Tells}
+use Rattle.hub_answer.specs.Asks.{Reply, Asks}
 use Rattle.hub_add.specs.Operations.{Added}
 use Rattle.lent_place.specs.Places.{Numbered}
 use Rattle.clock_checked.specs.Told.{SliceAsked, EntriesLeft}
@@ -90,11 +90,6 @@ asks_once {L} {of} {answer} {buffer} {out} {told} {t} {r'} {out'} {told'} {r''} 
   answered_once p q (firm_list out' out'') (λ a b. settled a.filled b.filled) (λ a b. settled a.1 b.1),
   answered_once p q (firm_list told' told'') (λ a b. settled a.places b.places) (λ a b. settled a.2 b.2),
 )
-
--- whose whole answer is what is told
-pub tells_once : {L : Type 0} {of : L → Reply} {answer : Tables → L} {told : List ℕ} {t : Tables} {r' : ℕ} {told' : List ℕ} {r'' : ℕ} {told'' : List ℕ}
-    → Tells of answer told r' told' t → Tells of answer told r'' told'' t → (r' ≡ r'') × (told' ≡ told'')
-tells_once p q = let e = asks_once p q in (e.0, e.2)
 
 -- ---- adding: the tables, and the place for the unknown dependency
 

@@ -1,11 +1,14 @@
 // Replays recorded runs of a batch and a queue: standard input has the commands, one a line, and the answers go to standard output.
 // A hash is H and one digit, which stands for 32 equal bytes; keys and sequences are one digit. Tables of eight records.
+#![tactic(auto)]
+
 ghost use Rattle.std.specs.Prelude.{◌+◌, ◌*◌, ◌≤◌, ◌<◌, length};
 
 use batch::Pushed;
 use branch::BranchDropped;
 use queue::{Handed, QueueAnswer, QueueListed};
 use release::Released;
+use std::io::{self, Read};
 
 fn wide(x: u8) -> u64 {
     x as u64
@@ -50,22 +53,21 @@ fn paint(out: &mut [u8], at: usize, x: u8)
 }
 
 // Writes a list of hashes.
-fn show(hashes: &[u8], n: usize)
+fn show(rt: &impl Print, hashes: &[u8], n: usize) -> io::Result<()>
     requires { n ≤ 256 }
 {
     if n == 0 {
-        io::write_all(1, b"-");
+        print!(rt; "-")?;
     }
     let mut i = 0;
     while i < n {
         if 0 < i {
-            io::write_all(1, b",");
+            print!(rt; ",")?;
         }
-        io::write_all(1, b"H");
-        io::print_decimal(1, wide(byte_at(hashes, 32 * i)) % 16);
+        print!(rt; "H{}", wide(byte_at(hashes, 32 * i)) % 16)?;
         i += 1;
     }
-    io::write_all(1, b"\n");
+    println!(rt)
 }
 
 // How many dependencies are listed from a place on, at most three.
@@ -85,39 +87,26 @@ fn listed(s: &[u8], at: usize) -> usize
     3
 }
 
-fn say_pushed(r: Pushed) {
+fn say_pushed(rt: &impl Print, r: Pushed) -> io::Result<()> {
     match r {
-        Pushed::Done => {
-            io::write_all(1, b"0\n");
-        }
-        Pushed::InBatch => {
-            io::write_all(1, b"3\n");
-        }
-        Pushed::Waits => {
-            io::write_all(1, b"16\n");
-        }
-        _ => {
-            io::write_all(1, b"refused\n");
-        }
+        Pushed::Done => println!(rt; "0"),
+        Pushed::InBatch => println!(rt; "3"),
+        Pushed::Waits => println!(rt; "16"),
+        _ => println!(rt; "refused"),
     }
 }
 
-fn say_asked(r: QueueAnswer) {
+fn say_asked(rt: &impl Print, r: QueueAnswer) -> io::Result<()> {
     match r {
-        QueueAnswer::Yes => {
-            io::write_all(1, b"yes\n");
-        }
-        QueueAnswer::No => {
-            io::write_all(1, b"no\n");
-        }
-        _ => {
-            io::write_all(1, b"refused\n");
-        }
+        QueueAnswer::Yes => println!(rt; "yes"),
+        QueueAnswer::No => println!(rt; "no"),
+        _ => println!(rt; "refused"),
     }
 }
 
 // Pushes a change whose dependencies are the first m bytes.
 fn push_part(
+    rt: &impl Print,
     h: &mut [u8],
     n: &mut [u64],
     d: &mut [u8],
@@ -127,15 +116,19 @@ fn push_part(
     seq: u64,
     needs: &[u8],
     m: usize,
-)
+) -> io::Result<()>
     requires { m ≤ length needs.now }
 {
     let z = 0;
-    say_pushed(batch::push(h, n, d, c, hash, key, seq, 0, 0, &needs[z..m]));
+    say_pushed(
+        rt,
+        batch::push(h, n, d, c, hash, key, seq, 0, 0, &needs[z..m]),
+    )
 }
 
 // The same from arrays.
 fn push_arrays(
+    rt: &impl Print,
     h: &mut [u8],
     n: &mut [u64],
     d: &mut [u8],
@@ -145,14 +138,22 @@ fn push_arrays(
     seq: u64,
     needs: &[u8; 96],
     m: usize,
-)
+) -> io::Result<()>
     requires { m ≤ 96 }
 {
-    push_part(h, n, d, c, hash, key, seq, needs, m);
+    push_part(rt, h, n, d, c, hash, key, seq, needs, m)
 }
 
 // bpush HASH KEY SEQ DEPS
-fn push_line(s: &[u8], at: usize, h: &mut [u8], n: &mut [u64], d: &mut [u8], c: &mut [u32])
+fn push_line(
+    rt: &impl Print,
+    s: &[u8],
+    at: usize,
+    h: &mut [u8],
+    n: &mut [u64],
+    d: &mut [u8],
+    c: &mut [u32],
+) -> io::Result<()>
     requires { at ≤ 4096 }
 {
     let mut hash = [0u8; 32];
@@ -164,39 +165,50 @@ fn push_line(s: &[u8], at: usize, h: &mut [u8], n: &mut [u64], d: &mut [u8], c: 
     let m = 32 * listed(s, at + 13);
     let key = wide(digit_at(s, at + 9));
     let seq = wide(digit_at(s, at + 11));
-    push_arrays(h, n, d, c, &hash, key, seq, &needs, m);
+    push_arrays(rt, h, n, d, c, &hash, key, seq, &needs, m)
 }
 
 // qlist, blist
-fn list_line(h: &[u8], n: &[u64], d: &[u8], c: &[u32]) {
+fn list_line(rt: &impl Print, h: &[u8], n: &[u64], d: &[u8], c: &[u32]) -> io::Result<()> {
     let mut th = [0u8; 256];
     let mut tn = [0u64; 40];
     let mut td = [0u8; 8192];
     let r = queue::iter(h, n, d, c, &mut th, &mut tn, &mut td);
     let QueueListed::All(m) = r else {
-        return;
+        return Ok(());
     };
     if m <= 256 {
-        show(&th, m);
+        show(rt, &th, m)?;
     }
+    Ok(())
 }
 
 // qpop
-fn pop_line(g: &[u8], k: usize, h: &mut [u8], n: &mut [u64], d: &mut [u8], c: &mut [u32]) {
+fn pop_line(
+    rt: &impl Print,
+    g: &[u8],
+    k: usize,
+    h: &mut [u8],
+    n: &mut [u64],
+    d: &mut [u8],
+    c: &mut [u32],
+) -> io::Result<()> {
     let mut th = [0u8; 256];
     let mut tn = [0u64; 40];
     let mut td = [0u8; 8192];
     let r = release::release(g, k, h, n, d, c, &mut th, &mut tn, &mut td);
     let Released::All(m) = r else {
-        return;
+        return Ok(());
     };
     if m <= 256 {
-        show(&th, m);
+        show(rt, &th, m)?;
     }
+    Ok(())
 }
 
 // bgive
 fn give_line(
+    rt: &impl Print,
     h: &mut [u8; 256],
     n: &mut [u64; 40],
     d: &mut [u8; 8192],
@@ -205,85 +217,91 @@ fn give_line(
     bn: &[u64; 40],
     bd: &[u8; 8192],
     bc: &mut [u32; 1],
-) {
+) -> io::Result<()> {
     let r = queue::hand_over(h, n, d, c, bh, bn, bd, bc);
     match r {
-        Handed::Done => {
-            io::write_all(1, b"0\n");
-        }
-        _ => {
-            io::write_all(1, b"refused\n");
-        }
+        Handed::Done => println!(rt; "0"),
+        _ => println!(rt; "refused"),
     }
 }
 
 // qdrop KEY SEQ
-fn drop_line(s: &[u8], at: usize, h: &mut [u8], n: &mut [u64], d: &mut [u8], c: &mut [u32])
+fn drop_line(
+    rt: &impl Print,
+    s: &[u8],
+    at: usize,
+    h: &mut [u8],
+    n: &mut [u64],
+    d: &mut [u8],
+    c: &mut [u32],
+) -> io::Result<()>
     requires { at ≤ 4096 }
 {
     let key = wide(digit_at(s, at + 6));
     let from = wide(digit_at(s, at + 8));
     let r = branch::remove_actor_branch_from(h, n, d, c, key, from);
     match r {
-        BranchDropped::Done => {
-            io::write_all(1, b"0\n");
-        }
-        BranchDropped::NotValid => {
-            io::write_all(1, b"refused\n");
-        }
+        BranchDropped::Done => println!(rt; "0"),
+        BranchDropped::NotValid => println!(rt; "refused"),
     }
 }
 
 // bnew, qnew
-fn new_line(h: &[u8], n: &[u64], d: &[u8], c: &mut [u32]) {
+fn new_line(rt: &impl Print, h: &[u8], n: &[u64], d: &[u8], c: &mut [u32]) -> io::Result<()> {
     waiting::open_empty(h, n, d, c);
-    io::write_all(1, b"0\n");
+    println!(rt; "0")
 }
 
 // qhas HASH, qhasseq KEY SEQ, qempty
-fn ask_line(s: &[u8], at: usize, h: &[u8], n: &[u64], d: &[u8], c: &[u32])
+fn ask_line(
+    rt: &impl Print,
+    s: &[u8],
+    at: usize,
+    h: &[u8],
+    n: &[u64],
+    d: &[u8],
+    c: &[u32],
+) -> io::Result<()>
     requires { at ≤ 4096 }
 {
     if byte_at(s, at + 1) == b'e' {
-        say_asked(queue::is_empty(h, n, d, c));
-        return;
+        return say_asked(rt, queue::is_empty(h, n, d, c));
     }
     if byte_at(s, at + 4) == b's' {
         let key = wide(digit_at(s, at + 8));
         let seq = wide(digit_at(s, at + 10));
-        say_asked(queue::has_actor_seq(h, n, d, c, key, seq));
-        return;
+        return say_asked(rt, queue::has_actor_seq(h, n, d, c, key, seq));
     }
     let mut hash = [0u8; 32];
     paint(&mut hash, 0, digit_at(s, at + 6));
-    say_asked(queue::has_hash(h, n, d, c, &hash));
+    say_asked(rt, queue::has_hash(h, n, d, c, &hash))
 }
 
 // The commands on the batch alone: bnew, bpush, blist.
 fn batch_line(
+    rt: &impl Print,
     s: &[u8],
     at: usize,
     h: &mut [u8; 256],
     n: &mut [u64; 40],
     d: &mut [u8; 8192],
     c: &mut [u32; 1],
-)
+) -> io::Result<()>
     requires { at ≤ 4096 }
 {
     let b = byte_at(s, at + 1);
     if b == b'n' {
-        new_line(h, n, d, c);
-        return;
+        return new_line(rt, h, n, d, c);
     }
     if b == b'p' {
-        push_line(s, at, h, n, d, c);
-        return;
+        return push_line(rt, s, at, h, n, d, c);
     }
-    list_line(h, n, d, c);
+    list_line(rt, h, n, d, c)
 }
 
 // The commands on the queue alone.
 fn queue_line(
+    rt: &impl Print,
     s: &[u8],
     at: usize,
     g: &[u8; 256],
@@ -292,27 +310,23 @@ fn queue_line(
     n: &mut [u64; 40],
     d: &mut [u8; 8192],
     c: &mut [u32; 1],
-)
+) -> io::Result<()>
     requires { at ≤ 4096 }
 {
     let b = byte_at(s, at + 1);
     if b == b'n' {
-        new_line(h, n, d, c);
-        return;
+        return new_line(rt, h, n, d, c);
     }
     if b == b'p' {
-        pop_line(g, k, h, n, d, c);
-        return;
+        return pop_line(rt, g, k, h, n, d, c);
     }
     if b == b'd' {
-        drop_line(s, at, h, n, d, c);
-        return;
+        return drop_line(rt, s, at, h, n, d, c);
     }
     if b == b'l' {
-        list_line(h, n, d, c);
-        return;
+        return list_line(rt, h, n, d, c);
     }
-    ask_line(s, at, h, n, d, c);
+    ask_line(rt, s, at, h, n, d, c)
 }
 
 // new, add: how many hashes the graph knows then, at most eight.
@@ -343,17 +357,18 @@ fn know(graph: &mut [u8; 256], a: u8, known: usize, x: u8)
 }
 
 // new and add answer 0.
-fn say_known(a: u8) {
+fn say_known(rt: &impl Print, a: u8) -> io::Result<()> {
     if a == b'a' {
-        io::write_all(1, b"0\n");
+        println!(rt; "0")?;
     }
     if a == b'n' {
-        io::write_all(1, b"0\n");
+        println!(rt; "0")?;
     }
+    Ok(())
 }
 
 // new makes the graph forget, add makes a hash known to it, bgive hands the batch over; the others are above.
-fn replay(s: &[u8])
+fn replay(rt: &impl Print, s: &[u8]) -> io::Result<()>
     requires { length s.now ≤ 4096 }
 {
     let mut graph = [0u8; 256];
@@ -371,23 +386,43 @@ fn replay(s: &[u8])
         let a = byte_at(s, at);
         know(&mut graph, a, known, digit_at(s, at + 5));
         known = next_known(a, known);
-        say_known(a);
+        say_known(rt, a)?;
         if a == b'q' {
-            queue_line(s, at, &graph, known, &mut qh, &mut qn, &mut qd, &mut qc);
+            queue_line(rt, s, at, &graph, known, &mut qh, &mut qn, &mut qd, &mut qc)?;
         }
         if a == b'b' {
             if byte_at(s, at + 1) == b'g' {
-                give_line(&mut qh, &mut qn, &mut qd, &mut qc, &bh, &bn, &bd, &mut bc);
+                give_line(
+                    rt, &mut qh, &mut qn, &mut qd, &mut qc, &bh, &bn, &bd, &mut bc,
+                )?;
             } else {
-                batch_line(s, at, &mut bh, &mut bn, &mut bd, &mut bc);
+                batch_line(rt, s, at, &mut bh, &mut bn, &mut bd, &mut bc)?;
             }
         }
         at = next_line(s, at);
     }
+    Ok(())
 }
 
-fn main() {
-    let mut buf = io::buffer();
-    let n = io::read_full(0, &mut buf);
-    replay(&buf[..n]);
+// Reads until the buffer is full, the input ends or a read fails, and returns how many bytes stand at its beginning.
+fn read_full<R: Read>(from: &mut R, buf: &mut [u8]) -> usize
+    ensures { result ≤ length buf.new }
+{
+    let mut done = 0;
+    while done < buf.len() {
+        let Ok(n) = from.read(&mut buf[done..]) else {
+            break;
+        };
+        if n == 0 {
+            break;
+        }
+        done += n;
+    }
+    done
+}
+
+fn main(rt: HostRuntime) -> io::Result<()> {
+    let mut input = [0u8; 4096];
+    let n = read_full(&mut rt.reader(), &mut input);
+    replay(&rt, &input[..n])
 }

@@ -1,9 +1,14 @@
 // Replays the unmarked samples at the hub's limits: one graph of one actor in tables of 4,096 changes and 16,384 edges, filled to the last change.
 // Each line of the output has the sample's words and the number of the answer. A change's hash is its number in two bytes and zeros.
+#![tactic(auto)]
+
 ghost use Rattle.std.specs.Prelude.{◌+◌, ◌≤◌, length};
 ghost use Rattle.tables.specs.Tables.{tables};
 ghost use Rattle.tables.specs.Valid.{Valid};
 ghost use Rattle.samples.specs.Room.{Room};
+
+use std::io::{self, Print, Write};
+use std::rt::HostRuntime;
 
 // Writes the hash of change k.
 fn name(out: &mut [u8], at: usize, k: u64)
@@ -24,10 +29,9 @@ fn names(out: &mut [u8]) {
 }
 
 // One line of the output.
-fn say(words: &[u8], number: u32) {
-    io::write_all(1, words);
-    io::print_decimal(1, number as u64);
-    io::write_all(1, b"\n");
+fn say<R: Print>(rt: &R, words: &[u8], number: u32) {
+    if let Err(_) = io::writer(rt).write_all(words) {}
+    if let Err(_) = println!(rt; "{number}") {}
 }
 
 // Adds change k with the max op and the dependencies, and answers the paper's number.
@@ -75,7 +79,8 @@ fn fill(
 }
 
 // A sample: the change is added, and the answer goes to the output.
-fn sample(
+fn sample<R: Print>(
+    rt: &R,
     hashes: &mut [u8],
     nodes: &mut [u32],
     targets: &mut [u32],
@@ -91,11 +96,12 @@ fn sample(
     ensures { Valid (tables hashes.new nodes.new targets.new nexts.new clocks.new counts.new) }
 {
     let r = add(hashes, nodes, targets, nexts, clocks, counts, k, max, deps);
-    say(words, r);
+    say(rt, words, r);
 }
 
 // The most dependencies, and one more.
-fn dependencies(
+fn dependencies<R: Print>(
+    rt: &R,
     hashes: &mut [u8],
     nodes: &mut [u32],
     targets: &mut [u32],
@@ -109,6 +115,7 @@ fn dependencies(
     let mut many = [0u8; 1056];
     names(&mut many);
     sample(
+        rt,
         hashes,
         nodes,
         targets,
@@ -123,6 +130,7 @@ fn dependencies(
     let mut most = [0u8; 1024];
     names(&mut most);
     sample(
+        rt,
         hashes,
         nodes,
         targets,
@@ -137,7 +145,8 @@ fn dependencies(
 }
 
 // The largest max op, and one more.
-fn max_ops(
+fn max_ops<R: Print>(
+    rt: &R,
     hashes: &mut [u8],
     nodes: &mut [u32],
     targets: &mut [u32],
@@ -149,6 +158,7 @@ fn max_ops(
     ensures { Valid (tables hashes.new nodes.new targets.new nexts.new clocks.new counts.new) }
 {
     sample(
+        rt,
         hashes,
         nodes,
         targets,
@@ -161,6 +171,7 @@ fn max_ops(
         b"",
     );
     sample(
+        rt,
         hashes,
         nodes,
         targets,
@@ -175,7 +186,8 @@ fn max_ops(
 }
 
 // A change that names itself.
-fn itself(
+fn itself<R: Print>(
+    rt: &R,
     hashes: &mut [u8],
     nodes: &mut [u32],
     targets: &mut [u32],
@@ -189,6 +201,7 @@ fn itself(
     let mut deps = [0u8; 32];
     name(&mut deps, 0, 36);
     sample(
+        rt,
         hashes,
         nodes,
         targets,
@@ -203,7 +216,8 @@ fn itself(
 }
 
 // The last change that there is room for, and one more.
-fn last(
+fn last<R: Print>(
+    rt: &R,
     hashes: &mut [u8],
     nodes: &mut [u32],
     targets: &mut [u32],
@@ -215,6 +229,7 @@ fn last(
     ensures { Valid (tables hashes.new nodes.new targets.new nexts.new clocks.new counts.new) }
 {
     sample(
+        rt,
         hashes,
         nodes,
         targets,
@@ -227,6 +242,7 @@ fn last(
         b"",
     );
     sample(
+        rt,
         hashes,
         nodes,
         targets,
@@ -241,7 +257,8 @@ fn last(
 }
 
 // The samples on what one change may have.
-fn limits(
+fn limits<R: Print>(
+    rt: &R,
     hashes: &mut [u8],
     nodes: &mut [u32],
     targets: &mut [u32],
@@ -252,12 +269,13 @@ fn limits(
     requires { Valid (tables hashes.old nodes.old targets.old nexts.old clocks.old counts.old) }
     ensures { Valid (tables hashes.new nodes.new targets.new nexts.new clocks.new counts.new) }
 {
-    dependencies(hashes, nodes, targets, nexts, clocks, counts);
-    max_ops(hashes, nodes, targets, nexts, clocks, counts);
+    dependencies(rt, hashes, nodes, targets, nexts, clocks, counts);
+    max_ops(rt, hashes, nodes, targets, nexts, clocks, counts);
 }
 
 // Those on the room, with the graph filled before.
-fn room(
+fn room<R: Print>(
+    rt: &R,
     hashes: &mut [u8],
     nodes: &mut [u32],
     targets: &mut [u32],
@@ -269,11 +287,12 @@ fn room(
     ensures { Valid (tables hashes.new nodes.new targets.new nexts.new clocks.new counts.new) }
 {
     fill(hashes, nodes, targets, nexts, clocks, counts, 36, 4096);
-    last(hashes, nodes, targets, nexts, clocks, counts);
+    last(rt, hashes, nodes, targets, nexts, clocks, counts);
 }
 
 // The samples up to change 35.
-fn early(
+fn early<R: Print>(
+    rt: &R,
     hashes: &mut [u8],
     nodes: &mut [u32],
     targets: &mut [u32],
@@ -285,11 +304,12 @@ fn early(
     ensures { Valid (tables hashes.new nodes.new targets.new nexts.new clocks.new counts.new) }
 {
     fill(hashes, nodes, targets, nexts, clocks, counts, 1, 34);
-    limits(hashes, nodes, targets, nexts, clocks, counts);
+    limits(rt, hashes, nodes, targets, nexts, clocks, counts);
 }
 
 // The samples from change 36 on.
-fn late(
+fn late<R: Print>(
+    rt: &R,
     hashes: &mut [u8],
     nodes: &mut [u32],
     targets: &mut [u32],
@@ -300,12 +320,13 @@ fn late(
     requires { Valid (tables hashes.old nodes.old targets.old nexts.old clocks.old counts.old) }
     ensures { Valid (tables hashes.new nodes.new targets.new nexts.new clocks.new counts.new) }
 {
-    itself(hashes, nodes, targets, nexts, clocks, counts);
-    room(hashes, nodes, targets, nexts, clocks, counts);
+    itself(rt, hashes, nodes, targets, nexts, clocks, counts);
+    room(rt, hashes, nodes, targets, nexts, clocks, counts);
 }
 
 // All samples, in a graph opened for one actor.
-fn replay(
+fn replay<R: Print>(
+    rt: &R,
     hashes: &mut [u8],
     nodes: &mut [u32],
     targets: &mut [u32],
@@ -316,11 +337,11 @@ fn replay(
     requires { Room (tables hashes.old nodes.old targets.old nexts.old clocks.old counts.old) }
 {
     actors::open_empty(hashes, nodes, targets, nexts, clocks, counts, 1);
-    early(hashes, nodes, targets, nexts, clocks, counts);
-    late(hashes, nodes, targets, nexts, clocks, counts);
+    early(rt, hashes, nodes, targets, nexts, clocks, counts);
+    late(rt, hashes, nodes, targets, nexts, clocks, counts);
 }
 
-fn main() {
+fn main(rt: HostRuntime) {
     let mut hashes = [0u8; 131072];
     let mut nodes = [0u32; 24576];
     let mut targets = [0u32; 16384];
@@ -328,6 +349,7 @@ fn main() {
     let mut clocks = [0u32; 262144];
     let mut counts = [0u32; 3];
     replay(
+        &rt,
         &mut hashes,
         &mut nodes,
         &mut targets,

@@ -6,11 +6,11 @@ use lib.ListN.{length}
 use Rattle.queue_runs.proofs.next_line.Statement.{statement}
 use Rattle.queue_runs.proofs.next_line.Tie as tie
 
-abbrev invariant_loop : tie.invariant-loop
+abbrev invariant_loop : tie.invariant-loop-i
 invariant_loop s at i₀ i =
     (at ≤ i) × (i ≤ length s)
 
-abbrev decreases_loop : tie.decreases-loop
+abbrev decreases_loop : tie.decreases-loop-i
 decreases_loop s at i₀ i = length s - i
 
 pub next_line_spec : {M : Type 1} → statement M

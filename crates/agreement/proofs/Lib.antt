@@ -1,0 +1,2 @@
+pub mod ValidAgrees
+pub mod NewActorCall

@@ -1,0 +1,4 @@
+pub mod OperationLaws
+pub mod Demands
+pub mod AddLaws
+pub mod DemandOne

@@ -1,0 +1,9 @@
+-- What was read is within the buffer, which keeps its length; the measure is the room left.
+use Rattle.std.proofs.Common.{◌-◌, ◌≤◌, length}
+use Rattle.queue_runs.proofs.read_full.Given as goal
+
+abbrev pub invariant-loop-done : goal.invariant-loop-done
+invariant-loop-done g l = l.done ≤ length l.buf
+
+abbrev pub decreases-loop-done : goal.decreases-loop-done
+decreases-loop-done g l = length l.buf - l.done
