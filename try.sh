@@ -43,31 +43,24 @@ cd "$home"
 # ---- the program that answers
 todo="$(tools/prove.sh --todo bench | wc -l)"
 if [ "$todo" -gt 0 ]; then
-  jobs="${RT_JOBS:-$(getconf _NPROCESSORS_ONLN)}"
-  [ "$jobs" -le 4 ] || jobs=4
-  echo "first $todo crates are proved: about $((todo * 20 / jobs / 60 + 1)) minutes. Later runs take seconds." >&2
+  echo "first $todo crates are proved: about $((todo * 20 / 60 + 1)) minutes. Later runs take seconds." >&2
 fi
 tools/prove.sh bench >&2 || exit 3
 
-# ---- the tool that explains, where a C compiler for x86-64 is here
+# ---- the tool that explains, where a C compiler is here
 tool() {
-  local cc=cc
-  [ -z "$EMULATOR" ] || cc=x86_64-linux-gnu-gcc
-  command -v "$cc" >/dev/null 2>&1 || return 1
-  if [ ! -f target/staticlib/libsession.a ] || [ target/stamp/session -nt target/staticlib/libsession.a ]; then
-    echo "the tool that explains is built: about half a minute" >&2
-    RT_JOBS=1 rt staticlib session >target/prove.log 2>&1 || return 1
-  fi
+  local archive=crates/session_face/out/libsession_face.a
+  command -v cc >/dev/null 2>&1 || return 1
+  [ -f "$archive" ] || echo "the tool that explains is built: about half a minute" >&2
+  tools/prove.sh session_face >&2 || return 1
   mkdir -p target/host
-  "$cc" -std=c11 -O2 -Iinclude host/session.c host/reasons.c target/staticlib/libsession.a -o target/host/explain || return 1
+  cc -std=c11 -O2 -Iinclude host/session.c host/reasons.c "$archive" -o target/host/explain || return 1
 }
 explained() { # WORD..
-  local sysroot=""
-  [ -z "$EMULATOR" ] || sysroot="-L /usr/x86_64-linux-gnu"
-  $EMULATOR $sysroot target/host/explain "$@" "$named" <"$list"
+  target/host/explain "$@" "$named" <"$list"
 }
 if [ -n "$explain" ]; then
-  tool || { echo "to explain, a C compiler for x86-64 is needed" >&2; exit 3; }
+  tool || { echo "to explain, a C compiler is needed" >&2; exit 3; }
   status=0
   explained --explain || status=$?
   exit "$status"
@@ -78,7 +71,7 @@ if [ "$(wc -c <"$list")" -gt 65536 ]; then
   echo "the list has more than 65,536 bytes, and the program bench answers none so long; with --explain there is room for 1,048,576" >&2
   exit 2
 fi
-$EMULATOR "$KIT/toolchain/lib/ld-linux-x86-64.so.2" --library-path "$KIT/toolchain/lib" target/bin/bench <"$list" >"$answer" || exit 3
+crates/bench/out/bench <"$list" >"$answer" || exit 3
 cat "$answer"
 if [ ! -s "$answer" ] && [ "$(wc -l <"$list")" -gt 2 ]; then
   echo "the answer has more than 65,536 bytes, and the program bench writes none so long; with --explain there is room for 16,777,216" >&2

@@ -14,9 +14,10 @@ fi
 if [ "$what" = session ]; then
   exit
 fi
-rt staticlib benchmark_cores >/dev/null 2>&1
+tools/prove.sh benchmark_cores >/dev/null
+cores=crates/benchmark_cores/out/libbenchmark_cores.a
 if [ "$what" = public ] || [ "$what" = all ]; then
-  cc -std=c11 -O2 -Wall -Wextra -Werror -Iinclude benchmarks/public.c target/libchangegraph.a target/staticlib/libbenchmark_cores.a -o target/benchmarks/public
+  cc -std=c11 -O2 -Wall -Wextra -Werror -Iinclude benchmarks/public.c target/libchangegraph.a "$cores" -o target/benchmarks/public
   target/benchmarks/public
 fi
 if [ "$what" = public ]; then
@@ -25,7 +26,7 @@ fi
 source="${AUTOMERGE_SRC:-oracle/../../shared/docs/src}"
 export AUTOMERGE_SRC
 AUTOMERGE_SRC="$(cd "$source" && pwd)"
-cp target/libchangegraph.a target/staticlib/libbenchmark_cores.a target/benchmarks/
+cp target/libchangegraph.a "$cores" target/benchmarks/
 export CHANGEGRAPH_LIB="$PWD/target/benchmarks" CARGO_TARGET_DIR="$PWD/target/oracle"
 (cd oracle && cargo build --profile plain --offline --quiet --features archive)
 program=target/oracle/plain/oracle

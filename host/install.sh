@@ -15,12 +15,7 @@ prefix="$1"
 case "$prefix" in /*) ;; *) prefix="$OLDPWD/$prefix" ;; esac
 
 archive=target/libchangegraph.a
-if [ ! -f "$archive" ] || [ -n "$(find crates crates.txt host/archive.sh -newer "$archive" -print -quit)" ]; then
-  began="$(mktemp)"
-  host/archive.sh
-  touch -r "$began" "$archive" # what changes while it is made counts as newer
-  rm -f "$began"
-fi
+host/archive.sh
 pages="$prefix/share/doc/changegraph"
 mkdir -p "$prefix/include" "$prefix/lib/pkgconfig" "$pages"
 install -m 644 include/changegraph.h include/changegraph_hub.h "$prefix/include/"

@@ -1,7 +1,4 @@
-# Sourced by scripts that build or run programs for x86-64, which is what the kit compiles for. Sets
-#   KIT       the kit's folder for this machine: its linker, archiver and C library
-#   EMULATOR  what stands before a program's name where the processor is another: the kit's own emulator, else Debian's; empty on x86-64
-# and gives `need`.
+# Sourced by scripts that run or link what the kit builds: stops where the kit is not here, or the processor is not x86-64, which is what it runs on and builds for. Gives `need`.
 
 # need COMMAND PACKAGE..: whether the command is here. Where it is not, and this user may install Debian's packages, they are installed first.
 need() {
@@ -19,16 +16,7 @@ if ! command -v rt >/dev/null 2>&1; then
   echo "the Rattle kit is not here: no command rt" >&2
   exit 2
 fi
-KIT="$(dirname "$(readlink -f "$(command -v rt)")")/../on/$(uname -m)"
-EMULATOR=""
 if [ "$(uname -m)" != x86_64 ]; then
-  EMULATOR="$KIT/toolchain/bin/qemu-x86_64"
-  if [ ! -x "$EMULATOR" ]; then
-    if need qemu-x86_64 qemu-user; then
-      EMULATOR="$(command -v qemu-x86_64)"
-    else
-      echo "no emulator for x86-64 is here and none may be installed: Debian's package is qemu-user" >&2
-      exit 2
-    fi
-  fi
+  echo "the Rattle kit runs on x86-64 alone, and builds for it alone: this processor is $(uname -m)" >&2
+  exit 2
 fi

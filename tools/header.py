@@ -1,8 +1,9 @@
 #!/usr/bin/env python3
-"""header.py: the headers of include/ say what the code has. changegraph.h declares each `extern "C"` function of the archive's crates with the same parameters in the same order, a
+"""header.py: the headers of include/ say what the code has. changegraph.h declares each `extern "C"` function of the libraries with the same parameters in the same order, a
 slice as a pointer and a length, and what it tells with its unit; each number of the paper's table has its name and value; both structs have their fields. changegraph_hub.h has one
-short call for each function, cg_hub_X for cg_X, with at most six parameters, and words for each number. All names of both begin with cg_ or CG_. Prints what is wrong, and a line;
-exit status 1 where anything is."""
+short call for each function, cg_hub_X for cg_X, with at most six parameters, and words for each number. All names of both begin with cg_ or CG_. The crate changegraph, of which the
+archive is made, has each of these functions word for word as its library has it, parameters, clauses and the words that these cite, and calls that with its own parameters in their order.
+Prints what is wrong, and a line; exit status 1 where anything is."""
 import glob
 import os
 import re
@@ -60,17 +61,59 @@ def in_c(function, parameter):
     return [pointer, f"size_t {name}_len"] if m[2] else [pointer]
 
 
+def exported(path):
+    """The `extern "C"` functions of a source file: of each its name, parameters, result, clauses, body, and where each word that the file brings in comes from."""
+    text = read(path)
+    words = {word.strip(): place for place, list_ in re.findall(r"^ghost use (\S+?)\.\{(.*)\};$", text, re.M) for word in list_.split(",")}
+    words |= {word: place for place, word in re.findall(r"^use (\w+)::(\w+);$", text, re.M)}
+    for name, parameters, result, clauses, body in re.findall(r'pub extern "C" fn (\w+)\(([^)]*)\) -> (\w+)\n(.*?)\n\{\n(.*?)\n\}', text, re.S):
+        yield name, [p.strip() for p in parameters.split(",") if p.strip()], result, re.sub(r"\s+", " ", clauses).strip(), re.sub(r"\s+", " ", body).strip(), words
+
+
+def crates():
+    """The libraries, and the static libraries of which a host may link one: benchmark_cores is for benchmarks alone."""
+    every = re.findall(r"^(\w+)( staticlib)?:", read("crates.txt"), re.M)
+    return [name for name, static in every if not static], [name for name, static in every if static and name != "benchmark_cores"]
+
+
 def of_code():
     functions, structs = {}, {}
-    for path in glob.glob("crates/*/src/*.rt"):
-        text = read(path)
-        if not path.startswith("crates/benchmark_cores/"):
-            for name, parameters, result in re.findall(r'pub extern "C" fn (\w+)\(([^)]*)\) -> (\w+)', text):
-                functions[name] = C[result] + " (" + ", ".join(d for p in parameters.split(",") if p.strip() for d in in_c(name, p)) + ")"
-        for name, body in re.findall(r"pub struct (Edge|Clock) \{(.*?)\}", text, re.S):
-            structs[C[name]] = [C[kind] + " " + field + (f"[{n}]" if n else "") for field, kind, n in re.findall(r"pub (\w+): \[?(\w+)(?:; (\d+)\])?,", body)]
+    for name in crates()[0]:
+        for path in glob.glob(f"crates/{name}/src/*.rt"):
+            for function, parameters, result, *_ in exported(path):
+                functions[function] = C[result] + " (" + ", ".join(d for p in parameters for d in in_c(function, p)) + ")"
+            for struct, body in re.findall(r"pub struct (Edge|Clock) \{(.*?)\}", read(path), re.S):
+                structs[C[struct]] = [C[kind] + " " + field + (f"[{n}]" if n else "") for field, kind, n in re.findall(r"pub (\w+): \[?(\w+)(?:; (\d+)\])?,", body)]
     numbers = re.findall(r"^number (\S+) = (\d+)$", read("crates/paper/specs/Numbers.antt"), re.M)
-    return functions, {"CG_" + name.upper().replace("-", "_"): value for name, value in numbers}, structs
+    return functions, {"CG_" + name.upper(): value for name, value in numbers}, structs
+
+
+def cited(clauses, parameters, words):
+    """Of what a function's clauses and parameters cite: where each word comes from."""
+    used = set(re.findall(r"[^\s(){}\[\];,.:&λ]+", " ".join([clauses, *parameters])))
+    return {word: place for word, place in words.items() if word.replace("◌", "") in used}
+
+
+def passed_on():
+    """What a static library has otherwise than the libraries: a function that is missing or that none has, other words, a call of another function or with other arguments."""
+    libraries, static = crates()
+    own = {f[0]: (name, *f[1:]) for name in libraries for path in glob.glob(f"crates/{name}/src/*.rt") for f in exported(path)}
+    for crate in static:
+        has = {f[0]: f[1:] for path in sorted(glob.glob(f"crates/{crate}/src/*.rt")) for f in exported(path)}
+        if crate == "changegraph":
+            yield from (f"{crate} lacks {name}" for name in own if name not in has)
+        for name, (parameters, result, clauses, body, words) in has.items():
+            if name not in own:
+                yield f"{crate}: no library has {name}"
+                continue
+            library, parameters_, result_, clauses_, _, words_ = own[name]
+            if (parameters, result, clauses) != (parameters_, result_, clauses_):
+                yield f"{crate}: {name} is not word for word as in {library}"
+            here, there = cited(clauses, parameters, words), cited(clauses_, parameters_, words_)
+            yield from (f"{crate}: {name} has {word} from {here.get(word)} and not from {place}" for word, place in there.items() if here.get(word, library) != place)
+            arguments = ", ".join(p.split(":")[0] for p in parameters)
+            if re.sub(r"\( ", "(", re.sub(r",? \)$", ")", body)) != f"{library}::{name}({arguments})":
+                yield f"{crate}: {name} is not the call of {library}::{name} with its own parameters"
 
 
 def code_of(path):
@@ -108,7 +151,7 @@ def names_wrong(path):
 
 def main():
     code = of_code()
-    wrong = hub_wrong(code[0], code[1]) + names_wrong("include/changegraph.h") + names_wrong("include/changegraph_hub.h")
+    wrong = [*passed_on(), *hub_wrong(code[0], code[1])] + names_wrong("include/changegraph.h") + names_wrong("include/changegraph_hub.h")
     for what, here, there in zip(("function", "number", "struct"), code, of_header()):
         for name in sorted(set(here) | set(there)):
             if here.get(name) != there.get(name):

@@ -1,17 +1,16 @@
 #!/usr/bin/env bash
-# Tests the program that answers a change list at its limits: limits_test.sh [PROGRAM], without a word target/bin/bench. No contract can say what a program reads and
+# Tests the program that answers a change list at its limits: limits_test.sh [PROGRAM], without a word crates/bench/out/bench. No contract can say what a program reads and
 # writes, so runs show it: a list of 65,536 bytes is answered and an answer of 65,536 bytes written; with a byte more of either nothing is, whatever the lines say and
 # however they come. No answer is computed: each stands here beside its line. Prints what is wrong, and a line; exit status 1 where anything is. It takes a few seconds.
 set -euo pipefail
 cd "$(dirname "$0")/.."
 . tools/report.sh
-. host/machine.sh
-program="${1:-target/bin/bench}"
+program="${1:-crates/bench/out/bench}"
 if [ ! -f "$program" ]; then
-  echo "there is no program $program; tools/prove.sh bench makes target/bin/bench" >&2
+  echo "there is no program $program; tools/prove.sh bench makes crates/bench/out/bench" >&2
   exit 2
 fi
-command=($EMULATOR "$KIT/toolchain/lib/ld-linux-x86-64.so.2" --library-path "$KIT/toolchain/lib" "$program")
+command=("$program")
 room="$(mktemp -d)"
 trap 'rm -rf "$room"' EXIT
 list="$room/list"
@@ -212,11 +211,9 @@ written "a list and an answer of 65,536 bytes" 65536 65536
 
 # ---- an answer that cannot be written: the program ends all the same
 
-if [ -z "$EMULATOR" ]; then # an emulator may open files of its own in the place of what is closed
-  status=0
-  timeout 60 "${command[@]}" <"$list" >&- 2>"$room/said" || status=$?
-  ended "standard output closed" "$status"
-fi
+status=0
+timeout 60 "${command[@]}" <"$list" >&- 2>"$room/said" || status=$?
+ended "standard output closed" "$status"
 if [ -c /dev/full ]; then
   status=0
   timeout 60 "${command[@]}" <"$list" >/dev/full 2>"$room/said" || status=$?
@@ -246,11 +243,9 @@ judge "stopped while it writes" "$status"
 : >"$list"
 printf 'bad\t1\n' >"$answer"
 written "an empty list" 0 6
-if [ -z "$EMULATOR" ]; then
-  status=0
-  run <&- || status=$?
-  judge "standard input closed" "$status"
-fi
+status=0
+run <&- || status=$?
+judge "standard input closed" "$status"
 status=0
 run </ || status=$?
 judge "a folder as standard input" "$status"

@@ -6,8 +6,8 @@ cd "$(dirname "$0")/.."
 words="$(mktemp)"
 trap 'rm -f "$words"' EXIT
 {
-  find crates -type f \( -name '*.rt' -o -name '*.antt' \) -exec cat {} + | tr -s ' \t(){}[],;:."`' '\n'
-  find crates -path '*/must-fail/*.edit' -exec basename {} .edit \;
+  find crates -name out -prune -o -type f \( -name '*.rt' -o -name '*.antt' \) -exec cat {} + | tr -s ' \t(){}[],;:."`' '\n'
+  find crates -name out -prune -o -path '*/must-fail/*.edit' -exec basename {} .edit \;
   find crates -mindepth 1 -maxdepth 1 -type d -exec basename {} \;
 } | sort -u >"$words"
 missing=0

@@ -18,7 +18,7 @@ os.chdir(os.path.join(os.path.dirname(os.path.abspath(__file__)), ".."))
 # the crates that state the demands: their words are looked at too
 DEMANDS = {"agreement", "demands", "demand_three", "exactly_once", "one_outcome", "queue_books"}
 
-NAME = r"[^\s(){}\[\];,.:λ⌜⌝]+"
+NAME = r"[^\s(){}\[\];,.:λ]+"
 HEAD = re.compile(r"^( *)(?:unfoldable |abbrev )?(?:pub )?(?:(record|data) )?(" + NAME + r")(?: [({][^:]*)* *(?:\{ℓ\} *)?: ")
 
 
@@ -106,27 +106,25 @@ def theorems():
 
 
 def place(path):
-    """The crate and the module that a `use` names, or the enum of a crate's source, or nothing where it is a library's."""
-    m = re.match(r"Rattle·([a-z_]+)(?:·specs)?\.specs\.declared\.([A-Za-z]+)", path)
-    if m:
-        return ("enum", m.group(1), m.group(2))
-    m = re.match(r"Rattle·([a-z_]+)(?:·specs)?\.specs\.([A-Za-z]+)$", path)
-    if m:
-        return ("spec", m.group(1), m.group(2))
-    return None
+    """The crate and the module that a `use` names, or the enum of a crate's source, or nothing where it is the kit's."""
+    m = re.match(r"Rattle\.([a-z_]+)\.specs\.(declared\.)?([A-Za-z]+)(\.TheVariants)?$", path)
+    if not m or not os.path.isdir(f"crates/{m.group(1)}"):
+        return None
+    return ("enum" if m.group(2) else "spec", m.group(1), m.group(3))
 
 
 def promises():
     """Of each C function: its name, its promise, and what the names in it are."""
-    for path in sorted(glob.glob("crates/*/src/lib.rt")):
+    for crate in re.findall(r"^(\w+):", open("crates.txt", encoding="utf-8").read(), re.M):  # static libraries pass on what these have
+        path = f"crates/{crate}/src/lib.rt"
+        if not os.path.isfile(path):
+            continue
         text = open(path, encoding="utf-8").read()
         head = Source.__new__(Source)
         head.uses, head.aliases = {}, {}
         head.read_uses(re.findall(r"^ghost use (.*)$", text, re.M))
         for m in re.finditer(r'pub extern "C" fn (\w+)\((.*?)\n\{', text, re.S):
-            if path.startswith("crates/benchmark_cores/"):
-                continue
-            yield m.group(1), " ".join(re.findall(r"⌜(.*?)⌝", m.group(2), re.S)), head
+            yield m.group(1), " ".join(re.findall(r"ensures(?: \w+)? (\{.*?\})(?=\s*(?:ensures|$))", m.group(2), re.S)), head
 
 
 def reach(sources):
@@ -161,7 +159,7 @@ def reach(sources):
             elif here and word in sources[here].definitions:
                 visit("spec", *here, word)
         for alias, path in source.aliases.items():
-            for word in re.findall(r"(?<![\w-])" + re.escape(alias) + r"\.(" + NAME + ")", text):
+            for word in re.findall(r"(?<![\w.'-])" + re.escape(alias) + r"\.(" + NAME + ")", text):
                 to = place(path)
                 if to:
                     visit(*to, word if to[0] == "spec" else to[2])

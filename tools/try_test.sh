@@ -47,10 +47,7 @@ said "65,536"
 { printf 'change list\t1\nactors\t16\n' && seq 3000 | sed $'s/.*/clock\t-/'; } >"$room/asks.list"
 run 2 "$room/nothing" "$room/asks.list"
 said "65,536"
-. host/machine.sh
-cc=cc
-[ -z "$EMULATOR" ] || cc=x86_64-linux-gnu-gcc
-if command -v "$cc" >/dev/null 2>&1; then # the tool that explains is built where a compiler is here
+if command -v cc >/dev/null 2>&1; then # the tool that explains is built where a compiler is here
   run 0 examples/worked.explained --explain
   run 1 "$room/bad" "$room/spaces.list"
   said "A space stands between"

@@ -10,7 +10,7 @@ STEPS = [
     ("hub_missing", "missing_told", "takes as many edges as were lent", "1 too many edges", "edges/specs/Told.antt", "AskedOverFirst", "the same of the first e edges"),
     ("hub_missing", "missing_checked", "the shell: checks, asks, tells", "", "hub_answer/specs/Asks.antt", "Asks", "what every question promises"),
     ("cache", "valid", "the check of all that is lent", "1 the tables are not valid", "tables/specs/Valid.antt", "Valid", "valid tables, word by word"),
-    ("missing", "get_hashes", "the core: requires valid tables", "2 no hash list · 15 short buffer", "missing/specs/Missing.antt", "missing-told", "the answer over the paper's graph"),
+    ("missing", "get_hashes", "the core: requires valid tables", "2 no hash list · 15 short buffer", "missing/specs/Missing.antt", "missing_told", "the answer over the paper's graph"),
     ("list_clock", "list_clock", "the clock of the have-list", "", "paper/specs/Graph.antt", "clock", "the paper: largest sequence in the history"),
     ("missing", "above_into", "counts, then writes the hashes in node order", "", "paper/specs/Graph.antt", "missing", "the paper: nodes above the clock"),
     ("hub_answer", "listed", "the number of the answer, and its length told", "", "paper/specs/Numbers.antt", "number", "the paper's numbers"),

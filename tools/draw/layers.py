@@ -21,6 +21,7 @@ def read(path):
             purpose = line[1:].strip()
         elif line.strip():
             crate, _, cited = line.partition(":")
+            crate = crate.split()[0]  # a static library's line has a word more
             if not groups or not purpose:
                 raise SystemExit(f"crates.txt: {crate} stands in no group, or has no line on what it is for")
             groups[-1].crates.append((crate, purpose, cited.split()))
