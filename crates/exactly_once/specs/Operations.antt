@@ -100,20 +100,20 @@ given_by (releasing t a a') s s' = records_of a'.hashes a'.numbers a'.deps (fewe
 given_by (dropping key from) s s' = []
 
 -- it counts where the number is 0
-abbrev pub ifDone {ℓ} : {A : Type ℓ} → ℕ → List A → List A
-ifDone r l = cond (eqb r (number done)) l []
+abbrev pub if_done {ℓ} : {A : Type ℓ} → ℕ → List A → List A
+if_done r l = cond (eqb r (number done)) l []
 
 -- the paper's calls
 unfoldable pub calls_of : {s s' : Stores} → Calls s s' → List Call
 calls_of (stop s) = []
-calls_of (then s s₁ s' c r p more) = ifDone r (call_of c ∷ []) ++ calls_of more
+calls_of (then s s₁ s' c r p more) = if_done r (call_of c ∷ []) ++ calls_of more
 
 -- what C pushed
 unfoldable pub pushed_in : {s s' : Stores} → Calls s s' → List Waiting
 pushed_in (stop s) = []
-pushed_in (then s s₁ s' c r p more) = ifDone r (pushed_by c) ++ pushed_in more
+pushed_in (then s s₁ s' c r p more) = if_done r (pushed_by c) ++ pushed_in more
 
 -- what C got
 unfoldable pub given_in : {s s' : Stores} → Calls s s' → List Waiting
 given_in (stop s) = []
-given_in (then s s₁ s' c r p more) = ifDone r (given_by c s s₁) ++ given_in more
+given_in (then s s₁ s' c r p more) = if_done r (given_by c s s₁) ++ given_in more
