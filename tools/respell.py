@@ -6,7 +6,8 @@ usage: python3 tools/respell.py [--check] [--table]        at the top of the rep
 A name is the repository's own where a file below crates/*/specs or crates/*/proofs declares it. Types, modules and what Rattle makes keep their names, and so does
 a name in a file that imports it from a library. Behind a dot only a field of one of the repository's records turns. Where two names would fall together,
 OTHER says what the one becomes. It turns .antt and .rt files, and code spans of README.md and docs/. --check writes nothing; --table prints old and new names.
-It lists names that meet another in a file as 'meets:'; there are none with the table as it stands.
+It lists names that fall together somewhere, or meet another word of a file ('meets:'), and ends with status 1 where there are any. Those that it lists were looked at one by one:
+a function beside the definition that it mirrors, a word of a path, or names that no file has both of.
 """
 import collections
 import glob
