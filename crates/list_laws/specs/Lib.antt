@@ -4,3 +4,4 @@ pub mod Iff
 pub mod Over
 pub mod Paste
 pub mod Rest
+pub mod Flags
