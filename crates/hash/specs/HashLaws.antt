@@ -1,12 +1,11 @@
 -- Laws of the definitions of Hash.antt.
-use Rattle.std.specs.Prelude.{◌≡◌, refl, ◌↔◌, ℕ, zero, suc, ◌+◌, ◌-◌, ◌*◌, ◌<◌, ◌≤◌, List, Bool, true, false, cond, length, take, drop, get_or}
+use Rattle.std.specs.Prelude.{◌≡◌, refl, ◌↔◌, ℕ, zero, suc, ◌+◌, ◌-◌, ◌*◌, ◌<◌, ◌≤◌, List, Bool, true, false, cond, ◌&&◌, nat_eq, [], ◌∷◌, length, take, drop, get_or, Some, None, Option}
 use Rattle.std.proofs.Common.{sym, subst, ◌∙◌, ⊎_elim, add-one, length-take, length-drop, drop_of_length-le, get_or-take, get_or-drop, not-suc-le-zero, le_of_suc-le-suc, eq-or-lt_of_le}
 use native.Mathlib.Omega.{arith}
 use Rattle.std.proofs.lemmas.Bool.{false≢true}
 use Rattle.std.proofs.Math.Seq.{drop-cons}
-use Rattle.hash.specs.declared.Found.{Found}
-use Rattle.hash.specs.declared.Found.TheVariants.{At, Unknown}
 use borrow.Author.Tests.{eq-eqb, ne_eqb}
+use lib.Pointwise.{pointwise}
 use Rattle.paper.specs.Lists.{hash_at, same_list}
 use Rattle.paper.proofs.Hashes.{same_refl, same→eq}
 use Rattle.hash.specs.Hash.{same_hash, find_from, find_hash}
@@ -70,18 +69,18 @@ module _ (hs h : List ℕ) (n k : ℕ) where
   unfolding find_from
   find_step l e = rw (left_one l, e, add-one)
 
-  pub find_hit : k < n → same_hash hs k h ≡ true → find_from hs h (n - k) k ≡ At k
+  pub find_hit : k < n → same_hash hs k h ≡ true → find_from hs h (n - k) k ≡ Some k
   unfolding find_from
   find_hit l e = rw (left_one l, e)
 
-  pub find_end : n ≤ k → find_from hs h (n - k) k ≡ Unknown
+  pub find_end : n ≤ k → find_from hs h (n - k) k ≡ None
   unfolding find_from
   find_end l = let z : n - k ≡ 0 = omega arith in rw z
 
 -- what the search finds: the first place of h below n, or that there is none
-unfoldable pub FoundIs : List ℕ → ℕ → List ℕ → Found → Type 0
-FoundIs hs n h (At k) = (k < n) × (hash_at hs k ≡ h) × ((i : ℕ) → i < k → hash_at hs i ≡ h → ⊥)
-FoundIs hs n h Unknown = (i : ℕ) → i < n → hash_at hs i ≡ h → ⊥
+unfoldable pub FoundIs : List ℕ → ℕ → List ℕ → Option ℕ → Type 0
+FoundIs hs n h (Some k) = (k < n) × (hash_at hs k ≡ h) × ((i : ℕ) → i < k → hash_at hs i ≡ h → ⊥)
+FoundIs hs n h None = (i : ℕ) → i < n → hash_at hs i ≡ h → ⊥
 
 -- what holds below k and at k holds below suc k
 pub below_suc : {P : ℕ → Type 0} {k : ℕ} → ((i : ℕ) → i < k → P i) → P k → (i : ℕ) → i < suc k → P i
@@ -94,10 +93,22 @@ from_is hs h n (suc left) k e none = go (same_hash hs k h) refl (from_is hs h n 
   where
     go : (b : Bool) → same_hash hs k h ≡ b
         → (((i : ℕ) → i < suc k → hash_at hs i ≡ h → ⊥) → FoundIs hs n h (find_from hs h left (suc k)))
-        → FoundIs hs n h (cond b (At k) (find_from hs h left (suc k)))
+        → FoundIs hs n h (cond b (Some k) (find_from hs h left (suc k)))
     go true p rest = (omega arith, (same_iff hs k h).0 p, none)
     go false p rest = rest (below_suc none (λ q. false≢true (sym p ∙ (same_iff hs k h).1 q)))
 
 pub find_is : (hs : List ℕ) (n : ℕ) (h : List ℕ) → FoundIs hs n h (find_hash hs n h)
 unfolding find_hash
 find_is hs n h = from_is hs h n n 0 (omega arith) (λ i l. absurd (not-suc-le-zero l))
+
+-- `==` on slices of bytes is the paper's equality of lists
+both : (b : Bool) {s t : Bool} → s ≡ t → (b && s) ≡ cond b t false
+both true e = e
+both false e = refl
+
+pub equal_is_same : (xs ys : List ℕ) → pointwise nat_eq xs ys ≡ same_list xs ys
+unfolding same_list
+equal_is_same [] [] = refl
+equal_is_same [] (y ∷ ys) = refl
+equal_is_same (x ∷ xs) [] = refl
+equal_is_same (x ∷ xs) (y ∷ ys) = both (nat_eq x y) (equal_is_same xs ys)
