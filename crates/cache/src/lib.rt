@@ -1,30 +1,24 @@
 // The cached clocks: caching a node, throwing the cached clocks away, and whether what is lent is valid.
+// Tables that are written are taken one by one: two `&mut` of one struct are lent in no call that the borrow checker covers (tried in `graph::store`).
 #![tactic(auto)]
 
-ghost use Rattle.std.specs.Prelude.{◌≡◌, Bool, true, cond, ◌↔◌, ℕ, ◌+◌, ◌*◌, ◌≤◌, ◌<◌, max, length, get_or, replicate, ltb};
-ghost use Rattle.tables.specs.Tables.{tables, graph, changes, actor_room};
+ghost use Rattle.std.specs.Prelude.{◌≡◌, true, ◌↔◌, ℕ, ◌+◌, ◌*◌, ◌≤◌, ◌<◌, length, get_or, ltb};
+ghost use Rattle.tables.specs.Lent.{lists};
+ghost use Rattle.tables.specs.Tables.{tables, actor_room};
 ghost use Rattle.tables.specs.Valid.{Valid, Sound};
 ghost use Rattle.cache.specs.Cache.{after_caching, forgotten, RowMerged, Cachable, Begun, NodeCached, Halfway, LeftCached, RowIs, Checkable, NodeClocked, RowChecked};
 ghost use Rattle.walk.specs.Rows.{RowsRight};
 ghost use Rattle.std.proofs.Math.Seq.{paste};
 
-// The larger of two numbers.
-fn larger(x: u32, y: u32) -> u32
-    ensures { result ≡ max x y }
-{
-    if x < y { y } else { x }
-}
+use tables::Tables;
 
 // Merges the `n` entries from `from` on into those from `to` on, which lie past them.
 fn merge_rows(clocks: &mut [u32], from: usize, to: usize, n: usize)
     requires { (from + n ≤ to) × (to + n ≤ length clocks.old) }
     ensures { RowMerged from to n clocks.old clocks.new }
 {
-    let mut a = 0;
-    while a < n {
-        clocks[to + a] = larger(clocks[to + a], clocks[from + a]);
-        a += 1;
-    }
+    let (below, row) = clocks.split_at_mut(to);
+    walk::merge_row(&mut row[..n], below, from);
 }
 
 // Puts `clock` into the clock table from `from` on.
@@ -32,11 +26,7 @@ fn put_row(clock: &[u32], clocks: &mut [u32], from: usize)
     requires { from + length clock.now ≤ length clocks.old }
     ensures { clocks.new ≡ paste clocks.old from clock.now (length clock.now) }
 {
-    let mut a = 0;
-    while a < clock.len() {
-        clocks[from + a] = clock[a];
-        a += 1;
-    }
+    clocks[from..from + clock.len()].copy_from_slice(clock);
 }
 
 // Whether node `k`'s clock is cached.
@@ -67,12 +57,14 @@ fn begin_cache(
     let mut clock = [0u32; 64];
     marks[k] = 1;
     walk::walk(
-        hashes,
-        nodes,
-        targets,
-        nexts,
-        clocks,
-        counts,
+        &Tables {
+            hashes,
+            nodes,
+            targets,
+            nexts,
+            clocks,
+            counts,
+        },
         width,
         k + 1,
         32,
@@ -125,10 +117,7 @@ fn cache_left_over(
     requires { Halfway (tables hashes.now nodes.now targets.now nexts.now clocks.old counts.now) width k marks.old }
     ensures { LeftCached (tables hashes.now nodes.now targets.now nexts.now clocks.old counts.now) k marks.old clocks.new marks.new }
 {
-    let mut next = 0;
-    while next < k {
-        let i = next;
-        next += 1;
+    for i in 0..k {
         if marks[i] != 0 {
             marks[i] = 0;
             cache_node(
@@ -182,124 +171,60 @@ fn row_is(clock: &[u32], rows: &[u32], from: usize) -> bool
     requires { from + length clock.now ≤ length rows.now }
     ensures { (result ≡ true) ↔ RowIs rows.now from clock.now }
 {
-    let mut a = 0;
-    while a < clock.len() {
-        if rows[from + a] != clock[a] {
-            return false;
-        }
-        a += 1;
-    }
-    true
+    &rows[from..from + clock.len()] == clock
 }
 
 // The clock of node `k`, by the rows below it.
-fn node_clock(
-    hashes: &[u8],
-    nodes: &[u32],
-    targets: &[u32],
-    nexts: &[u32],
-    clocks: &[u32],
-    counts: &[u32],
-    width: usize,
-    k: usize,
-    clock: &mut [u32],
-    marks: &mut [u8],
-)
-    requires { Checkable (tables hashes.now nodes.now targets.now nexts.now clocks.now counts.now) width (length clock.old) k marks.old }
-    ensures { NodeClocked (tables hashes.now nodes.now targets.now nexts.now clocks.now counts.now) k (length clock.old) marks.old clock.new marks.new }
+fn node_clock(tables: &Tables, width: usize, k: usize, clock: &mut [u32], marks: &mut [u8])
+    requires { Checkable (lists tables.now) width (length clock.old) k marks.old }
+    ensures { NodeClocked (lists tables.now) k (length clock.old) marks.old clock.new marks.new }
 {
     walk::clear(clock);
-    let actor = nodes[6 * k] as usize;
-    clock[actor] = nodes[6 * k + 1];
-    let first = nodes[6 * k + 4] as usize;
-    walk::mark_links(targets, nexts, first, marks);
-    walk::walk(
-        hashes, nodes, targets, nexts, clocks, counts, width, k, k, clock, marks,
-    );
+    let actor = tables.nodes[6 * k] as usize;
+    clock[actor] = tables.nodes[6 * k + 1];
+    let first = tables.nodes[6 * k + 4] as usize;
+    walk::mark_links(tables.targets, tables.nexts, first, marks);
+    walk::walk(tables, width, k, k, clock, marks);
 }
 
 // Whether row `k` of the clock table is right, where the rows below it are.
-fn row_right(
-    hashes: &[u8],
-    nodes: &[u32],
-    targets: &[u32],
-    nexts: &[u32],
-    clocks: &[u32],
-    counts: &[u32],
-    width: usize,
-    k: usize,
-    clock: &mut [u32],
-    marks: &mut [u8],
-) -> bool
-    requires { Checkable (tables hashes.now nodes.now targets.now nexts.now clocks.now counts.now) width (length clock.old) k marks.old }
-    ensures { RowChecked (tables hashes.now nodes.now targets.now nexts.now clocks.now counts.now) k result marks.old marks.new }
+fn row_right(tables: &Tables, width: usize, k: usize, clock: &mut [u32], marks: &mut [u8]) -> bool
+    requires { Checkable (lists tables.now) width (length clock.old) k marks.old }
+    ensures { RowChecked (lists tables.now) k result marks.old marks.new }
 {
-    if is_cached(nodes, clocks, width, k) {
-        node_clock(
-            hashes, nodes, targets, nexts, clocks, counts, width, k, clock, marks,
-        );
-        return row_is(clock, clocks, k * width);
+    if is_cached(tables.nodes, tables.clocks, width, k) {
+        node_clock(tables, width, k, clock, marks);
+        return row_is(clock, tables.clocks, k * width);
     }
     walk::clear(clock);
-    row_is(clock, clocks, k * width)
+    row_is(clock, tables.clocks, k * width)
 }
 
 // Whether the rows in use are right, in node order.
-fn cache_right(
-    hashes: &[u8],
-    nodes: &[u32],
-    targets: &[u32],
-    nexts: &[u32],
-    clocks: &[u32],
-    counts: &[u32],
-    width: usize,
-    clock: &mut [u32],
-    marks: &mut [u8],
-) -> bool
-    requires sound { Sound (tables hashes.now nodes.now targets.now nexts.now clocks.now counts.now) × (width ≡ actor_room (tables hashes.now nodes.now targets.now nexts.now clocks.now counts.now)) }
-    requires clock_len { (length clock.old ≡ width) × (get_or counts.now 0 0 ≤ length marks.old) }
+fn cache_right(tables: &Tables, width: usize, clock: &mut [u32], marks: &mut [u8]) -> bool
+    requires sound { Sound (lists tables.now) × (width ≡ actor_room (lists tables.now)) }
+    requires clock_len { (length clock.old ≡ width) × (get_or tables.now.counts.now 0 0 ≤ length marks.old) }
     requires by_index { (j : ℕ) → get_or marks.old j 0 ≡ 0 }
-    ensures { (result ≡ true) ↔ ((k : ℕ) → k < get_or counts.now 0 0 → RowsRight (tables hashes.now nodes.now targets.now nexts.now clocks.now counts.now) k) }
+    ensures { (result ≡ true) ↔ ((k : ℕ) → k < get_or tables.now.counts.now 0 0 → RowsRight (lists tables.now) k) }
 {
-    let n = counts[0] as usize;
-    let mut k = 0;
-    while k < n {
-        if !row_right(
-            hashes, nodes, targets, nexts, clocks, counts, width, k, clock, marks,
-        ) {
+    let n = tables.counts[0] as usize;
+    for k in 0..n {
+        if !row_right(tables, width, k, clock, marks) {
             return false;
         }
-        k += 1;
     }
     true
 }
 
 // Whether the lent tables are valid.
-pub fn valid(
-    hashes: &[u8],
-    nodes: &[u32],
-    targets: &[u32],
-    nexts: &[u32],
-    clocks: &[u32],
-    counts: &[u32],
-) -> bool
-    ensures { (result ≡ true) ↔ Valid (tables hashes.now nodes.now targets.now nexts.now clocks.now counts.now) }
+pub fn valid(tables: &Tables) -> bool
+    ensures { (result ≡ true) ↔ Valid (lists tables.now) }
 {
-    if !tables::sound(hashes, nodes, targets, nexts, clocks, counts) {
+    if !tables::sound(tables) {
         return false;
     }
-    let width = tables::actor_room(hashes, clocks);
+    let width = tables::actor_room(tables.hashes, tables.clocks);
     let mut clock = [0u32; 64];
     let mut marks = [0u8; 4096];
-    cache_right(
-        hashes,
-        nodes,
-        targets,
-        nexts,
-        clocks,
-        counts,
-        width,
-        &mut clock[..width],
-        &mut marks,
-    )
+    cache_right(tables, width, &mut clock[..width], &mut marks)
 }

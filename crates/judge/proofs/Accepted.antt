@@ -1,18 +1,13 @@
--- A change that is judged Done passed every test.
+-- A change that is judged Ok passed every test.
 -- Assumes nothing.
-use Rattle.std.specs.Prelude.{◌≡◌, refl, suc, ◌+◌, ◌%◌, ◌<◌, eqb, ltb, leb, length}
+use Rattle.std.specs.Prelude.{◌≡◌, refl, ℕ, suc, ◌+◌, ◌%◌, ◌<◌, eqb, ltb, leb, length, Some, None, Option, Ok}
 use Rattle.std.proofs.Common.{sym, ap, ◌∙◌, arith}
 use borrow.Author.Tests.{eqb-true, eqb-false, ltb-true, ltb-false, leb-true, leb-false}
 use Rattle.paper.proofs.Bools.{by_bool}
 use Rattle.hash.specs.Hash.{find_hash, first_unknown}
-use Rattle.hash.specs.declared.Found.{Found}
-use Rattle.hash.specs.declared.Found.TheVariants.{At, Unknown as Nowhere}
-use Rattle.hash.specs.declared.Missing.{Missing}
-use Rattle.hash.specs.declared.Missing.TheVariants.{First, Nothing}
 use Rattle.tables.specs.Tables.{Tables, changes, edges, actors, change_room_of, edge_room_of}
 use Rattle.tables.specs.Valid.{count_of}
-use Rattle.judge.specs.declared.Judged.{Judged}
-use Rattle.judge.specs.declared.Judged.TheVariants.{Done}
+use Rattle.judge.specs.Judged.{Judged}
 use Rattle.paper.specs.Adding.{Change}
 use Rattle.judge.specs.Judge.{deps_given, tables_judged, judged_number}
 use Rattle.judge.specs.JudgeLaws.{Accepted, bad_hash, bad_deps, known, unknown, no_actor, wrong_sequence, max_high, ops_high, too_many, no_node, no_edge}
@@ -21,8 +16,8 @@ use Rattle.judge.specs.JudgeLaws.{Accepted, bad_hash, bad_deps, known, unknown, 
 clash : {P : Type 0} {a b c : Judged} → a ≡ b → a ≡ c → judged_number b < judged_number c → P
 clash {b = b} {c = c} p q l = let e : judged_number b ≡ judged_number c = ap judged_number (sym p ∙ q) in absurd (omega arith)
 
--- a change that is judged Done passed every test
-pub accepted : (t : Tables) (x : Change) → tables_judged t x ≡ Done → Accepted t x
+-- a change that is judged Ok passed every test
+pub accepted : (t : Tables) (x : Change) → tables_judged t x ≡ Ok tt → Accepted t x
 accepted t x q =
     by_bool (eqb (length x.hash) 32)
     (λ h'.
@@ -32,7 +27,7 @@ accepted t x q =
     (λ n. clash q (bad_deps t x h (eqb-false (length x.deps % 32) 0 n)) (omega arith)))
     (λ n. clash q (bad_hash t x (eqb-false (length x.hash) 32 n)) (omega arith))
   where
-    rest : length x.hash ≡ 32 → length x.deps % 32 ≡ 0 → find_hash t.hashes (changes t) x.hash ≡ Nowhere → first_unknown t.hashes (changes t) x.deps ≡ Nothing → Accepted t x
+    rest : length x.hash ≡ 32 → length x.deps % 32 ≡ 0 → find_hash t.hashes (changes t) x.hash ≡ None → first_unknown t.hashes (changes t) x.deps ≡ None → Accepted t x
     rest h d f m =
         by_bool (leb (actors t) x.actor) (λ e. clash q (no_actor t x h d f m (leb-true (actors t) x.actor e)) (omega arith))
         (λ a'.
@@ -69,10 +64,10 @@ accepted t x q =
         }))))))
         (λ n. clash q (wrong_sequence t x h d f m a (eqb-false x.seq (suc (count_of t.nodes x.actor (changes t))) n)) (omega arith)))
 
-    missing : length x.hash ≡ 32 → length x.deps % 32 ≡ 0 → find_hash t.hashes (changes t) x.hash ≡ Nowhere → (o : Missing) → first_unknown t.hashes (changes t) x.deps ≡ o → Accepted t x
-    missing h d f (First i) e = clash q (unknown t x h d f i e) (omega arith)
-    missing h d f Nothing e = rest h d f e
+    missing : length x.hash ≡ 32 → length x.deps % 32 ≡ 0 → find_hash t.hashes (changes t) x.hash ≡ None → (o : Option ℕ) → first_unknown t.hashes (changes t) x.deps ≡ o → Accepted t x
+    missing h d f (Some i) e = clash q (unknown t x h d f i e) (omega arith)
+    missing h d f None e = rest h d f e
 
-    found : length x.hash ≡ 32 → length x.deps % 32 ≡ 0 → (o : Found) → find_hash t.hashes (changes t) x.hash ≡ o → Accepted t x
-    found h d (At k) e = clash q (known t x h d k e) (omega arith)
-    found h d Nowhere e = missing h d e (first_unknown t.hashes (changes t) x.deps) refl
+    found : length x.hash ≡ 32 → length x.deps % 32 ≡ 0 → (o : Option ℕ) → find_hash t.hashes (changes t) x.hash ≡ o → Accepted t x
+    found h d (Some k) e = clash q (known t x h d k e) (omega arith)
+    found h d None e = missing h d e (first_unknown t.hashes (changes t) x.deps) refl

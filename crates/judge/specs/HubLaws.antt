@@ -1,6 +1,6 @@
 -- The judgement over the tables is the paper's judgement over the graph that they hold.
 -- Assumes nothing.
-use Rattle.std.specs.Prelude.{◌≡◌, refl, cond, ◌||◌, List, ℕ, zero, suc, ◌+◌, ◌-◌, ◌/◌, ◌≤◌, eqb, ltb, leb, length}
+use Rattle.std.specs.Prelude.{◌≡◌, refl, cond, ◌||◌, List, ℕ, zero, suc, ◌+◌, ◌-◌, ◌/◌, ◌≤◌, eqb, ltb, leb, length, Some, None, Option}
 use Rattle.std.proofs.Common.{sym, ap, ◌∙◌, arith, add-one, lt-ltb, le-ltb, ltb-true, ltb-false}
 use Rattle.std.proofs.Math.Seq.{length-slice}
 use Rattle.paper.specs.Lists.{sum_below, hash_at, hashes_from, hashes_of}
@@ -8,8 +8,6 @@ use Rattle.paper.specs.Graph.{node}
 use Rattle.paper.specs.Adding.{Change, unknown, seq_for_actor, edges_used, first_unknown_place, judged as paper-judged}
 use Rattle.paper.proofs.Bools.{by_bool}
 use Rattle.hash.specs.Hash.{unknown_from, first_unknown}
-use Rattle.hash.specs.declared.Missing.{Missing}
-use Rattle.hash.specs.declared.Missing.TheVariants.{First, Nothing}
 use Rattle.tables.specs.Tables.{Tables, changes, edges, actors, change_room_of, edge_room_of, first_at, along, graph}
 use Rattle.tables.specs.Valid.{Laid, Sound, count_of}
 use Rattle.tables.specs.Valid.Laid.{none, bare, some}
@@ -34,8 +32,8 @@ unfolding hashes_of
 hashes_count ds = hashes_long ds (length ds / 32) 0
 
 -- the first at place k of m, i before it, or none where k is not below m
-abbrev pub missing_below : ℕ → ℕ → ℕ → Missing
-missing_below i k m = cond (ltb k m) (First (i + k)) Nothing
+abbrev pub missing_below : ℕ → ℕ → ℕ → Option ℕ
+missing_below i k m = cond (ltb k m) (Some (i + k)) None
 
 unknown_from_lem : (t : Tables) (ds : List ℕ) (left i : ℕ) → unknown_from t.hashes (changes t) ds left i ≡ missing_below i (first_unknown_place (graph t) (hashes_from ds left i)) left
 unfolding unknown_from first_unknown_place hashes_from found_as
@@ -45,13 +43,13 @@ unknown_from_lem t ds (suc left) i =
     rw (find_node t (hash_at ds i))
     (by_bool (ltb (node (graph t) (hash_at ds i)) (changes t))
     (λ y. rw y (ih ∙ later (first_unknown_place (graph t) (hashes_from ds left (suc i)))))
-    (λ n. let e : i ≡ i + 0 = omega arith in rw (n, lt-ltb 0 (suc left) (omega arith)) (ap First e)))
+    (λ n. let e : i ≡ i + 0 = omega arith in rw (n, lt-ltb 0 (suc left) (omega arith)) (ap Some e)))
   where
     later : (k : ℕ) → missing_below (suc i) k left ≡ missing_below i (suc k) (suc left)
     later k =
         let e : suc i + k ≡ i + suc k = omega arith in
         by_bool (ltb k left)
-        (λ y. let l = ltb-true k left y in rw (y, lt-ltb (suc k) (suc left) (omega arith)) (ap First e))
+        (λ y. let l = ltb-true k left y in rw (y, lt-ltb (suc k) (suc left) (omega arith)) (ap Some e))
         (λ n. let l = ltb-false k left n in rw (n, le-ltb (suc k) (suc left) (omega arith)))
 
 -- the scan gives the paper's place

@@ -1,3 +1,4 @@
+pub mod Judged
 pub mod Judge
 pub mod JudgeLaws
 pub mod Hub

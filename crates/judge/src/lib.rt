@@ -2,16 +2,27 @@
 #![tactic(auto)]
 
 ghost use Rattle.std.specs.Prelude.{◌≡◌, ◌*◌, ◌≤◌, length};
-ghost use Rattle.tables.specs.Tables.{tables};
+ghost use Rattle.tables.specs.Lent.{lists};
 ghost use Rattle.tables.specs.Valid.{Valid, count_of};
-ghost use Rattle.judge.specs.Judge.{change, tables_judged, judged_number};
+ghost use Rattle.judge.specs.Judged.{lent_change};
+ghost use Rattle.judge.specs.Judge.{tables_judged, judged_number, add_refusal_number};
 
-use hash::{Found, Missing};
+use tables::Tables;
 
-// What adding a change comes to.
+// A change as it is lent: its hash, its actor and that one's sequence, its max op, how many ops, and the hashes of its dependencies.
 #[derive(Clone, Copy)]
-pub enum Judged {
-    Done,
+pub struct Change<'a> {
+    pub hash: &'a [u8],
+    pub actor: u64,
+    pub seq: u64,
+    pub max_op: u64,
+    pub ops: u64,
+    pub deps: &'a [u8],
+}
+
+// Why a change is not added. The first unknown dependency is named by its place.
+#[derive(Clone, Copy, PartialEq, Eq, Debug)]
+pub enum AddRefusal {
     Malformed,
     Known,
     Unknown(usize),
@@ -23,21 +34,32 @@ pub enum Judged {
     NoEdgeRoom,
 }
 
+impl AddRefusal {
+    // The paper's number.
+    pub fn number(self) -> u32
+        ensures { result ≡ add_refusal_number self }
+    {
+        match self {
+            AddRefusal::Malformed => 2,
+            AddRefusal::Known => 3,
+            AddRefusal::Unknown(_) => 4,
+            AddRefusal::NoActor => 5,
+            AddRefusal::WrongSequence => 6,
+            AddRefusal::BadOps => 7,
+            AddRefusal::TooManyDeps => 8,
+            AddRefusal::NoNodeRoom => 9,
+            AddRefusal::NoEdgeRoom => 10,
+        }
+    }
+}
+
 // The paper's number.
-pub fn number(j: Judged) -> u32
-    ensures { result ≡ judged_number j }
+pub fn number(judged: Result<(), AddRefusal>) -> u32
+    ensures { result ≡ judged_number judged }
 {
-    match j {
-        Judged::Done => 0,
-        Judged::Malformed => 2,
-        Judged::Known => 3,
-        Judged::Unknown(_) => 4,
-        Judged::NoActor => 5,
-        Judged::WrongSequence => 6,
-        Judged::BadOps => 7,
-        Judged::TooManyDeps => 8,
-        Judged::NoNodeRoom => 9,
-        Judged::NoEdgeRoom => 10,
+    match judged {
+        Ok(()) => 0,
+        Err(refusal) => refusal.number(),
     }
 }
 
@@ -46,71 +68,52 @@ pub fn count_of(nodes: &[u32], n: usize, actor: u64) -> usize
     requires { 6 * n ≤ length nodes.now }
     ensures { result ≡ count_of nodes.now actor n }
 {
-    let mut c: usize = 0;
-    let mut k = 0;
-    while k < n {
-        if nodes[6 * k] as u64 == actor {
-            c += 1;
-        }
-        k += 1;
+    let mut count: usize = 0;
+    for k in 0..n {
+        count += usize::from(nodes[6 * k] as u64 == actor);
     }
-    c
+    count
 }
 
 // What adding the change would come to. Nothing is changed.
-pub fn judge(
-    hashes: &[u8],
-    nodes: &[u32],
-    targets: &[u32],
-    nexts: &[u32],
-    clocks: &[u32],
-    counts: &[u32],
-    hash: &[u8],
-    actor: u64,
-    seq: u64,
-    max: u64,
-    ops: u64,
-    deps: &[u8],
-) -> Judged
-    requires { Valid (tables hashes.now nodes.now targets.now nexts.now clocks.now counts.now) }
-    ensures { result ≡ tables_judged (tables hashes.now nodes.now targets.now nexts.now clocks.now counts.now) (change hash.now actor seq max ops deps.now) }
+pub fn judge(tables: &Tables, change: &Change) -> Result<(), AddRefusal>
+    requires { Valid (lists tables.now) }
+    ensures { result ≡ tables_judged (lists tables.now) (lent_change change.now) }
 {
-    if hash.len() != 32 {
-        return Judged::Malformed;
+    if change.hash.len() != 32 {
+        return Err(AddRefusal::Malformed);
     }
-    if deps.len() % 32 != 0 {
-        return Judged::Malformed;
+    if change.deps.len() % 32 != 0 {
+        return Err(AddRefusal::Malformed);
     }
-    let n = counts[0] as usize;
-    let Found::Unknown = hash::find(hashes, n, hash) else {
-        return Judged::Known;
+    let n = tables.counts[0] as usize;
+    let None = hash::find(tables.hashes, n, change.hash) else {
+        return Err(AddRefusal::Known);
     };
-    let missing = hash::first_unknown(hashes, n, deps);
-    if let Missing::First(i) = missing {
-        return Judged::Unknown(i);
+    if let Some(i) = hash::first_unknown(tables.hashes, n, change.deps) {
+        return Err(AddRefusal::Unknown(i));
     }
-    if counts[2] as u64 <= actor {
-        return Judged::NoActor;
+    if tables.counts[2] as u64 <= change.actor {
+        return Err(AddRefusal::NoActor);
     }
-    if seq != count_of(nodes, n, actor) as u64 + 1 {
-        return Judged::WrongSequence;
+    if change.seq != count_of(tables.nodes, n, change.actor) as u64 + 1 {
+        return Err(AddRefusal::WrongSequence);
     }
-    if 4294967295 < max {
-        return Judged::BadOps;
+    if 4294967295 < change.max_op {
+        return Err(AddRefusal::BadOps);
     }
-    if max < ops {
-        return Judged::BadOps;
+    if change.max_op < change.ops {
+        return Err(AddRefusal::BadOps);
     }
-    let d = deps.len() / 32;
+    let d = change.deps.len() / 32;
     if 32 < d {
-        return Judged::TooManyDeps;
+        return Err(AddRefusal::TooManyDeps);
     }
-    if hashes.len() / 32 <= n {
-        return Judged::NoNodeRoom;
+    if tables.hashes.len() / 32 <= n {
+        return Err(AddRefusal::NoNodeRoom);
     }
-    let e = counts[1] as usize;
-    if targets.len() < e + d {
-        return Judged::NoEdgeRoom;
+    if tables.targets.len() < tables.counts[1] as usize + d {
+        return Err(AddRefusal::NoEdgeRoom);
     }
-    Judged::Done
+    Ok(())
 }

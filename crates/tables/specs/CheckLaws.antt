@@ -1,6 +1,6 @@
 -- The steps of the small checks.
 -- Assumes nothing.
-use Rattle.std.specs.Prelude.{◌≡◌, refl, Bool, true, false, cond, ◌||◌, List, ℕ, zero, suc, ◌+◌, ◌≤◌, ◌<◌, eqb, length, get_or, set, replicate}
+use Rattle.std.specs.Prelude.{◌≡◌, refl, Bool, true, false, cond, ◌||◌, List, ℕ, zero, suc, ◌+◌, ◌≤◌, ◌<◌, eqb, length, get_or, set, replicate, Some, None}
 use Rattle.std.proofs.Common.{sym, ap, subst, ◌∙◌, add-one, arith, length-set, get_or-set_same, get_or-set_other, eqb-true}
 use Rattle.std.proofs.Math.Bool.{or-false, or-true}
 use Rattle.std.proofs.lemmas.List.{length-replicate, get_or-replicate}
@@ -8,7 +8,6 @@ use Rattle.std.proofs.lemmas.Bool.{eqb-false}
 use Rattle.paper.specs.Lists.{hash_at}
 use Rattle.hash.specs.Hash.{find_hash}
 use Rattle.hash.specs.HashLaws.{FoundIs, find_is}
-use Rattle.hash.specs.declared.Found.TheVariants.{At, Unknown}
 use Rattle.paper.specs.Lists.{some_below, tally}
 use Rattle.paper.proofs.Bools.{by_bool}
 use Rattle.tables.specs.Tables.{actor_at, seq_at, head_at}
@@ -21,13 +20,13 @@ use Rattle.tables.specs.Checks.{named, Marked}
 abbrev pub Fresh : List ℕ → ℕ → Type 0
 Fresh hs j = (i : ℕ) → i < j → hash_at hs i ≡ hash_at hs j → ⊥
 
-pub fresh : (hs : List ℕ) (j : ℕ) → find_hash hs j (hash_at hs j) ≡ Unknown → Fresh hs j
+pub fresh : (hs : List ℕ) (j : ℕ) → find_hash hs j (hash_at hs j) ≡ None → Fresh hs j
 unfolding FoundIs
 fresh hs j e = subst (FoundIs hs j (hash_at hs j)) e (find_is hs j (hash_at hs j))
 
-pub stale : (hs : List ℕ) (j k : ℕ) → find_hash hs j (hash_at hs j) ≡ At k → Fresh hs j → ⊥
+pub stale : (hs : List ℕ) (j k : ℕ) → find_hash hs j (hash_at hs j) ≡ Some k → Fresh hs j → ⊥
 unfolding FoundIs
-stale hs j k e f = let p : FoundIs hs j (hash_at hs j) (At k) = subst (FoundIs hs j (hash_at hs j)) e (find_is hs j (hash_at hs j)) in f k p.0 p.1
+stale hs j k e f = let p : FoundIs hs j (hash_at hs j) (Some k) = subst (FoundIs hs j (hash_at hs j)) e (find_is hs j (hash_at hs j)) in f k p.0 p.1
 
 -- ---- running sequences
 

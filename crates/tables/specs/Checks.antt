@@ -1,14 +1,14 @@
 -- What the small checks answer, from which validity is put together.
 -- Assumes nothing.
-use Rattle.std.specs.Prelude.{◌≡◌, Bool, cond, List, ℕ, ◌≤◌, ◌<◌, eqb, length, get_or}
+use Rattle.std.specs.Prelude.{◌≡◌, Bool, cond, List, ℕ, ◌≤◌, ◌<◌, eqb, length, get_or, Some, None, Option}
 use Rattle.paper.specs.Lists.{some_below}
 use Rattle.tables.specs.Tables.{head_at}
 use Rattle.tables.specs.Valid.{Run}
 
--- r is where the list of node k that starts at edge c ends, within e edges, or 0 where no such list starts there
-pub record RunEnd (ts xs : List ℕ) (e k c r : ℕ) : Type 0 where
-  pub right : 0 < r → (r ≤ e) × Run ts xs k c r
-  pub wrong : r ≡ 0 → (d : ℕ) → d ≤ e → Run ts xs k c d → ⊥
+-- r is where the list of node k that starts at edge c ends, within e edges, or none where no such list starts there
+abbrev pub RunEnd : List ℕ → List ℕ → ℕ → ℕ → ℕ → Option ℕ → Type 0
+RunEnd ts xs e k c (Some r) = (r ≤ e) × Run ts xs k c r
+RunEnd ts xs e k c None = (d : ℕ) → d ≤ e → Run ts xs k c d → ⊥
 
 -- one of the first e edges has the target k
 unfoldable pub named : List ℕ → ℕ → ℕ → Bool

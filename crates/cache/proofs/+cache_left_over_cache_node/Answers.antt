@@ -1,29 +1,31 @@
--- `cache::cache_node` and `cache::cache_left_over` meet their contracts, by the laws of `Caching`. Assumes nothing.
+-- `cache::cache_node` and `cache::cache_left_over` meet their contracts, by the laws of `Caching`.
 use Rattle.std.proofs.Common.{arith}
 use Rattle.cache.specs.CacheLaws.{halfway, node_done, own_in, already_done}
 use Rattle.cache.specs.LeftLaws.{caching_start, caching_skip, caching_end, next_cachable, caching_on}
+use Rattle.cache.proofs.+cache_left_over_cache_node.Goals.{cache_left_over-then-marks-i-ne0, cache_left_over-else-marks-i-ne0}
 use Rattle.cache.proofs.+cache_left_over_cache_node.Goals as goal
 
-pub cache_left_over-loop-next-init : goal.cache_left_over-loop-next-init
-cache_left_over-loop-next-init t c = caching_start _ _ _ _ c.requires
+pub cache_left_over-loop-i-init : goal.cache_left_over-loop-i-init
+cache_left_over-loop-i-init t c = caching_start _ _ _ _ c.requires
 
 pub cache_left_over-cache_node-requires : goal.cache_left_over-cache_node-requires
 cache_left_over-cache_node-requires t c =
     let e = c.decreases in
-    let h = c.loop-next-test.true in
-    (omega arith, next_cachable _ _ _ _ c.requires _ _ _ c.loop-next.invariant h (omega (arith, c.if-marks-i-ne0.true)))
+    let h = c.loop-i-test.true in
+    (omega arith, next_cachable _ _ _ _ c.requires _ _ _ c.loop-i.invariant h (omega (arith, c.if-marks-i-ne0.true)))
 
-pub cache_left_over-loop-next-preserved-then-marks-i-ne0 :
-    goal.cache_left_over-loop-next-preserved-then-marks-i-ne0
-cache_left_over-loop-next-preserved-then-marks-i-ne0 t c =
-    caching_on _ _ _ _ c.requires _ _ _ c.loop-next.invariant c.loop-next-test.true (omega (arith, c.if-marks-i-ne0.true)) _ _ c.cache_node.ensures.clocks c.merge_rows.ensures _
-    c.cache_node.ensures.marks_back
-
-pub cache_left_over-loop-next-preserved : goal.cache_left_over-loop-next-preserved
-cache_left_over-loop-next-preserved t c = caching_skip _ _ _ _ c.requires _ _ _ c.loop-next.invariant c.loop-next-test.true c.if-marks-i-ne0.false
+pub cache_left_over-loop-i-preserved : goal.cache_left_over-loop-i-preserved
+cache_left_over-loop-i-preserved t c =
+    let v = c.loop-i.invariant in
+    let l = c.loop-i-test.true in
+    elim c.if-marks-i-ne0.branch [
+      | cache_left_over-then-marks-i-ne0 w ↦
+          rw (w.clocks-is, w.marks-is) (caching_on _ _ _ _ c.requires _ _ _ v l (omega (arith, w.if-marks-i-ne0.true)) _ _ w.cache_node.ensures.clocks w.merge_rows.ensures _ w.cache_node.ensures.marks_back)
+      | cache_left_over-else-marks-i-ne0 w ↦ rw (w.clocks-is, w.marks-is) (caching_skip _ _ _ _ c.requires _ _ _ v l w.if-marks-i-ne0.false)
+    ]
 
 pub cache_left_over-returns : goal.cache_left_over-returns
-cache_left_over-returns t c = caching_end _ _ _ _ c.requires _ _ _ c.loop-next.invariant c.loop-next-test.false
+cache_left_over-returns t c = caching_end _ _ _ _ c.requires _ _ _ c.loop-i.invariant c.loop-i-test.false
 
 pub cache_node-is_cached-requires : goal.cache_node-is_cached-requires
 cache_node-is_cached-requires t c = own_in _ _ _ _ c.requires

@@ -1,6 +1,6 @@
 -- The invariant of the loop, `Caching`: the marked nodes passed are cached in turn, and what they bring is in row k. The measure of the cycle is twice the
 -- node, and one more for `cache_node`.
-use Rattle.std.proofs.Common.{◌+◌, ◌*◌, ◌-◌}
+use Rattle.std.proofs.Common.{◌+◌, ◌*◌}
 use Rattle.tables.specs.Tables.{tables}
 use Rattle.cache.specs.LeftLaws.{Caching}
 use Rattle.cache.proofs.+cache_left_over_cache_node.Given as goal
@@ -11,8 +11,5 @@ decreases-cache_left_over l = 2 * l.k
 abbrev pub decreases-cache_node : goal.decreases-cache_node
 decreases-cache_node l = 2 * l.k + 1
 
-abbrev pub invariant-cache_left_over-loop-next : goal.invariant-cache_left_over-loop-next
-invariant-cache_left_over-loop-next l = Caching (tables l.hashes l.nodes l.targets l.nexts l.initial.clocks l.counts) l.k l.initial.marks l.clocks l.marks l.next
-
-abbrev pub decreases-cache_left_over-loop-next : goal.decreases-cache_left_over-loop-next
-decreases-cache_left_over-loop-next l = l.k - l.next
+abbrev pub invariant-cache_left_over-loop-i : goal.invariant-cache_left_over-loop-i
+invariant-cache_left_over-loop-i l = Caching (tables l.hashes l.nodes l.targets l.nexts l.initial.clocks l.counts) l.k l.initial.marks l.clocks l.marks l.i
