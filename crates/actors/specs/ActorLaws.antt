@@ -1,23 +1,23 @@
 -- What the changed tables hold at each place, and the steps of the loops that change them.
 -- Assumes nothing.
-use Rattle.std.specs.Prelude.{◌≡◌, cond, ltb, length, take, drop}
+use Rattle.std.specs.Prelude.{◌≡◌, Ok, Err, cond, ltb, length, take, drop}
 use Rattle.std.proofs.Math.Path.{refl, sym, ap₂, fun_ext}
 use Rattle.std.proofs.Common.{ap, ◌∙◌, ⊎_elim, arith, length-take, length-drop, get_or-set_same, get_or-take, get_or-drop, take_all, drop-drop}
 use mathlib.Core.List.{List, [], ◌∷◌, ◌++◌, append_assoc}
 use Prim.Native.Nat.{ℕ, zero, suc, ◌+◌, ◌*◌, ◌-◌, ◌≤◌, ◌<◌}
 use Rattle.std.proofs.Math.Numerals.{add-one}
 use Rattle.std.proofs.Math.Nat.{mul-le-mul_right, suc-mul}
-use Rattle.std.proofs.Math.ListN.{get_or, set, length-set}
+use Rattle.std.proofs.Math.ListN.{get_or, set, length-set, get_or-eq_default}
 use Rattle.std.proofs.Math.Seq.{get_or-set_other, paste, paste-zero, paste-suc}
-use borrow.Author.Tests.{lt-ltb, le-ltb, le-leb, lt-leb, eq-eqb, ne_eqb}
-use Rattle.paper.proofs.Bools.{below_suc}
+use borrow.Author.Tests.{ltb-true, ltb-false, lt-ltb, le-ltb, le-leb, lt-leb, eq-eqb, ne_eqb}
+use Rattle.paper.proofs.Bools.{by_bool, below_suc}
 use Rattle.list_laws.specs.Cases.{below_or_not, three_ways}
 use Rattle.clock.specs.Clock as clock
 use Rattle.clock.specs.Places.{length_inserted, inserted_low, inserted_here, inserted_high, length_removed, removed_low, removed_high, removed_free}
 use Rattle.tables.specs.Tables.{Tables, changes, actors, change_room_of, actor_room, actor_at}
 use Rattle.tables.specs.Valid.{count_of, Numbers, Valid}
-use Rattle.actors.specs.declared.ActorAnswer.TheVariants.{Done, NoActor, HasChanges, NoRoom}
-use Rattle.actors.specs.Actors.{opening, inserting, removing, widen, narrow, renumbered, row_filled, row_at, rows_by}
+use Rattle.actors.specs.declared.ActorRefusal.TheVariants.{NoActor, HasChanges, NoRoom}
+use Rattle.actors.specs.Actors.{opening, inserting, removing, widen, narrow, renumbered, row_filled, row_at, rows_by, RowBy}
 
 -- ---- renumbered nodes
 
@@ -112,35 +112,17 @@ module _ (s : (ℕ → ℕ) → ℕ → ℕ) (w : ℕ) (cs : List ℕ) where
   pub rows_read : (n : ℕ) → row_at (rows_by s w n cs) (n * w) w ≡ row_at cs (n * w) w
   rows_read n = fun_ext (λ i. ap (λ (v : ℕ). cond (ltb i w) v 0) (rows_high n (n * w + i) (omega arith)))
 
+  pub rows_none : rows_by s w 0 cs ≡ cs
+  unfolding rows_by
+  rows_none = refl
+
   pub rows_next : (n : ℕ) → row_filled (n * w) (s (row_at (rows_by s w n cs) (n * w) w)) w (rows_by s w n cs) ≡ rows_by s w (n + 1) cs
   unfolding rows_by
   rows_next n = rw add-one (ap (λ (c : ℕ → ℕ). row_filled (n * w) (s c) w (rows_by s w n cs)) (rows_read n))
 
--- cs' is cs with its first k rows changed
-pub record Passing (s : (ℕ → ℕ) → ℕ → ℕ) (w n : ℕ) (cs : List ℕ) (k : ℕ) (cs' : List ℕ) : Type 0 where
-  pub high : k ≤ n
-  pub long : length cs' ≡ length cs
-  pub same : cs' ≡ rows_by s w k cs
-
 -- row k lies in the table
 pub row_room : (k n w r : ℕ) → k < n → n * w ≤ r → k * w + w ≤ r
 row_room k n w r l b = let d : suc k * w ≤ n * w = mul-le-mul_right w l in let e = suc-mul k w in omega arith
-
-module _ (s : (ℕ → ℕ) → ℕ → ℕ) (w n : ℕ) (cs : List ℕ) where
-  pub passing_start : Passing s w n cs 0 cs
-  unfolding rows_by
-  passing_start = record { high = omega arith; long = refl; same = refl }
-
-  pub passing_next : {k : ℕ} {cs' cs'' : List ℕ} → Passing s w n cs k cs' → k < n → cs'' ≡ row_filled (k * w) (s (row_at cs' (k * w) w)) w cs' → Passing s w n cs (k + 1) cs''
-  passing_next {k} {cs'} {cs''} v l e =
-      record {
-        high = omega arith;
-        long = ap length e ∙ filled_long (k * w) (s (row_at cs' (k * w) w)) cs' w ∙ v.long;
-        same = e ∙ ap (λ (l : List ℕ). row_filled (k * w) (s (row_at l (k * w) w)) w l) v.same ∙ rows_next s w cs k;
-      }
-
-  pub passing_end : {k : ℕ} {cs' : List ℕ} → Passing s w n cs k cs' → n ≤ k → cs' ≡ rows_by s w n cs
-  passing_end {k} v l = let h = v.high in let e : k ≡ n = omega arith in v.same ∙ ap (λ (m : ℕ). rows_by s w m cs) e
 
 -- ---- the row of w entries from b on, lent: what a function gets that is lent `&mut cs[b..b + w]`, and cs once the row is put back
 
@@ -151,7 +133,7 @@ abbrev put : ℕ → ℕ → List ℕ → List ℕ → List ℕ
 put b w cs row = take b cs ++ (row ++ drop (b + w - b) (drop b cs))
 
 module _ (cs : List ℕ) (b w : ℕ) (fits : b + w ≤ length cs) where
-  lent_long : length (lent b w cs) ≡ w
+  pub lent_long : length (lent b w cs) ≡ w
   lent_long = simp (length-take, length-drop) (omega arith)
 
   lent_at : (i : ℕ) → i < w → get_or (lent b w cs) i 0 ≡ get_or cs (b + i) 0
@@ -169,77 +151,91 @@ module _ (cs : List ℕ) (b w : ℕ) (fits : b + w ≤ length cs) where
         let k : b + w - b ≡ w = omega arith in
         rw (k, drop-drop w b cs, ← append_assoc (take b cs) row (drop (b + w) cs), ← take_all w row (omega arith)) (some_back w (omega arith))
 
-  -- it is the clocks' shift that opens place p, and closes it
-  pub widened : {p : ℕ} {row : List ℕ} → p < w → row ≡ clock.inserted (lent b w cs) (w - 1) p → put b w cs row ≡ row_filled b (widen p (row_at cs b w)) w cs
-  widened {p} {row} l e = rw e (all_back _ (clock.inserted (lent b w cs) (w - 1) p) (length_inserted (lent b w cs) _ _ low long ∙ lent_long) at)
+  lent_row : clock.entry_of (lent b w cs) ≡ row_at cs b w
+  lent_row =
+      fun_ext (λ i. by_bool (ltb i w) (λ y. rw y (lent_at i (ltb-true i w y))) (λ n. rw n (get_or-eq_default (lent b w cs) 0 {n = i} (let h = ltb-false i w n in omega (arith, lent_long)))))
+
+  -- a row that was changed by s is put back
+  pub changed_back : (s : (ℕ → ℕ) → ℕ → ℕ) (row : List ℕ) → RowBy s w (lent b w cs) row → put b w cs row ≡ row_filled b (s (row_at cs b w)) w cs
+  changed_back s row r = all_back (s (row_at cs b w)) row (r.0 ∙ lent_long) (λ i h. r.1 i h ∙ ap (λ (c : ℕ → ℕ). s c i) lent_row)
+
+-- it is the clocks' shift that opens place p in a row, and closes it
+module _ (row : List ℕ) (w p : ℕ) (l : p < w) (long : length row ≡ w) where
+  pub widened : RowBy (widen p) w row (clock.inserted row (w - 1) p)
+  widened = (length_inserted row _ _ low room, at)
     where
       low : p ≤ w - 1
       low = omega arith
 
-      long : w - 1 < length (lent b w cs)
-      long = omega (arith, lent_long)
+      room : w - 1 < length row
+      room = omega arith
 
-      high : (i : ℕ) → i < w → p < i → get_or (clock.inserted (lent b w cs) (w - 1) p) i 0 ≡ widen p (row_at cs b w) i
+      high : (i : ℕ) → i < w → p < i → get_or (clock.inserted row (w - 1) p) i 0 ≡ widen p (clock.entry_of row) i
       high zero h q = absurd (omega arith)
       high (suc i) h q =
           let z : suc i - 1 ≡ i = omega arith in
-          rw (le-ltb (suc i) p (omega arith), ne_eqb (suc i) p (λ e. omega arith), z, lt-ltb i w (omega arith)) (inserted_high _ _ _ low long i (omega arith) (omega arith) ∙ lent_at i (omega arith))
+          rw (le-ltb (suc i) p (omega arith), ne_eqb (suc i) p (λ e. omega arith), z) (inserted_high _ _ _ low room i (omega arith) (omega arith))
 
-      at : (i : ℕ) → i < w → get_or (clock.inserted (lent b w cs) (w - 1) p) i 0 ≡ widen p (row_at cs b w) i
+      at : (i : ℕ) → i < w → get_or (clock.inserted row (w - 1) p) i 0 ≡ widen p (clock.entry_of row) i
       at i h =
-          ⊎_elim (λ q. rw (lt-ltb i p q, lt-ltb i w h) (inserted_low _ _ _ low long i q ∙ lent_at i h))
-          (⊎_elim (λ q. rw (le-ltb i p (omega arith), eq-eqb i p q, q) (inserted_here _ _ _ low long)) (high i h))
+          ⊎_elim (λ q. rw (lt-ltb i p q) (inserted_low _ _ _ low room i q))
+          (⊎_elim (λ q. rw (le-ltb i p (omega arith), eq-eqb i p q, q) (inserted_here _ _ _ low room)) (high i h))
           (three_ways i p)
 
-  pub narrowed : {p : ℕ} {row : List ℕ} → p < w → row ≡ clock.removed (lent b w cs) w p → put b w cs row ≡ row_filled b (narrow p (row_at cs b w)) w cs
-  narrowed {p} {row} l e = rw e (all_back _ (clock.removed (lent b w cs) w p) (length_removed (lent b w cs) _ _ l long ∙ lent_long) at)
+  pub narrowed : RowBy (narrow p) w row (clock.removed row w p)
+  narrowed = (length_removed row _ _ l room, at)
     where
-      long : w ≤ length (lent b w cs)
-      long = omega (arith, lent_long)
+      room : w ≤ length row
+      room = omega arith
 
-      at : (i : ℕ) → i < w → get_or (clock.removed (lent b w cs) w p) i 0 ≡ narrow p (row_at cs b w) i
+      at : (i : ℕ) → i < w → get_or (clock.removed row w p) i 0 ≡ narrow p (clock.entry_of row) i
       at i h =
-          ⊎_elim (λ q. rw (lt-ltb i p q, lt-ltb i w h) (removed_low _ _ _ l long i q ∙ lent_at i h))
+          ⊎_elim (λ q. rw (lt-ltb i p q) (removed_low _ _ _ l room i q))
           (λ q.
-          ⊎_elim (λ y. rw (le-ltb i p q, lt-ltb (suc i) w y) (removed_high _ _ _ l long i q y ∙ lent_at (suc i) y))
-          (λ n. rw (le-ltb i p q, le-ltb (suc i) w n) (removed_free _ _ _ l long i (omega arith)))
+          ⊎_elim (λ y. rw (le-ltb i p q) (removed_high _ _ _ l room i q y))
+          (λ n. rw (le-ltb i p q) (removed_free _ _ _ l room i (omega arith) ∙ sym (get_or-eq_default row 0 {n = suc i} (omega arith))))
           (below_or_not (suc i) w))
           (below_or_not i p)
 
 -- ---- the answers, each from its condition
 
 module _ (t : Tables) where
-  pub opening_done : (a : ℕ) → a ≤ actor_room t → opening t a ≡ Done
+  pub opening_done : (a : ℕ) → a ≤ actor_room t → opening t a ≡ Ok tt
   unfolding opening
   opening_done a l = rw (le-leb a (actor_room t) l)
 
-  pub opening_refused : (a : ℕ) → actor_room t < a → opening t a ≡ NoRoom
+  pub opening_refused : (a : ℕ) → actor_room t < a → opening t a ≡ Err NoRoom
   unfolding opening
   opening_refused a l = rw (lt-leb a (actor_room t) l)
 
-  pub inserting_done : (p : ℕ) → p ≤ actors t → actors t < actor_room t → inserting t p ≡ Done
+  pub inserting_done : (p : ℕ) → p ≤ actors t → actors t < actor_room t → inserting t p ≡ Ok tt
   unfolding inserting
   inserting_done p l h = rw (le-leb p (actors t) l, lt-ltb (actors t) (actor_room t) h)
 
-  pub inserting_high : (p : ℕ) → actors t < p → inserting t p ≡ NoRoom
+  pub inserting_high : (p : ℕ) → actors t < p → inserting t p ≡ Err NoRoom
   unfolding inserting
   inserting_high p l = rw (lt-leb p (actors t) l)
 
-  pub inserting_full : (p : ℕ) → p ≤ actors t → actor_room t ≤ actors t → inserting t p ≡ NoRoom
+  pub inserting_full : (p : ℕ) → p ≤ actors t → actor_room t ≤ actors t → inserting t p ≡ Err NoRoom
   unfolding inserting
   inserting_full p l h = rw (le-leb p (actors t) l, le-ltb (actors t) (actor_room t) h)
 
-  pub removing_none : (p : ℕ) → actors t ≤ p → removing t p ≡ NoActor
+  pub removing_none : (p : ℕ) → actors t ≤ p → removing t p ≡ Err NoActor
   unfolding removing
   removing_none p l = rw (le-leb (actors t) p l)
 
-  pub removing_used : (p : ℕ) → p < actors t → (count_of t.nodes p (changes t) ≡ 0 → ⊥) → removing t p ≡ HasChanges
+  pub removing_used : (p : ℕ) → p < actors t → (count_of t.nodes p (changes t) ≡ 0 → ⊥) → removing t p ≡ Err HasChanges
   unfolding removing
   removing_used p l n = rw (lt-leb (actors t) p l, ne_eqb (count_of t.nodes p (changes t)) 0 n)
 
-  pub removing_done : (p : ℕ) → p < actors t → count_of t.nodes p (changes t) ≡ 0 → removing t p ≡ Done
+  pub removing_done : (p : ℕ) → p < actors t → count_of t.nodes p (changes t) ≡ 0 → removing t p ≡ Ok tt
   unfolding removing
   removing_done p l e = rw (lt-leb (actors t) p l, eq-eqb (count_of t.nodes p (changes t)) 0 e)
+
+-- one row more is changed
+pub rows_back : (s : (ℕ → ℕ) → ℕ → ℕ) (w k : ℕ) (cs cs' row : List ℕ) → cs' ≡ rows_by s w k cs → k * w + w ≤ length cs' → RowBy s w (lent (k * w) w cs') row → put (k * w) w cs' row ≡ rows_by s w (k + 1) cs
+rows_back s w k cs cs' row e fits r =
+    changed_back cs' (k * w) w fits s row r ∙ (ap (λ (l : List ℕ). row_filled (k * w) (s (row_at l (k * w) w)) w l) e ∙ rows_next s w cs k)
 
 -- three counts, written
 pub three : (us : List ℕ) (a : ℕ) → length us ≡ 3 → set (set (set us 0 0) 1 0) 2 a ≡ 0 ∷ 0 ∷ a ∷ []
@@ -275,3 +271,27 @@ rooms t v =
       room_few = l.actors_limit;
       actors_low = λ k h. omega (arith, (v.sound.numbers k h).actor_low, u.actors_fit, l.actors_limit);
     }
+
+-- ---- laws that no proof needs any more
+
+-- cs' is cs with its first k rows changed
+pub record Passing (s : (ℕ → ℕ) → ℕ → ℕ) (w n : ℕ) (cs : List ℕ) (k : ℕ) (cs' : List ℕ) : Type 0 where
+  pub high : k ≤ n
+  pub long : length cs' ≡ length cs
+  pub same : cs' ≡ rows_by s w k cs
+
+module _ (s : (ℕ → ℕ) → ℕ → ℕ) (w n : ℕ) (cs : List ℕ) where
+  pub passing_start : Passing s w n cs 0 cs
+  unfolding rows_by
+  passing_start = record { high = omega arith; long = refl; same = refl }
+
+  pub passing_next : {k : ℕ} {cs' cs'' : List ℕ} → Passing s w n cs k cs' → k < n → cs'' ≡ row_filled (k * w) (s (row_at cs' (k * w) w)) w cs' → Passing s w n cs (k + 1) cs''
+  passing_next {k} {cs'} {cs''} v l e =
+      record {
+        high = omega arith;
+        long = ap length e ∙ filled_long (k * w) (s (row_at cs' (k * w) w)) cs' w ∙ v.long;
+        same = e ∙ ap (λ (l : List ℕ). row_filled (k * w) (s (row_at l (k * w) w)) w l) v.same ∙ rows_next s w cs k;
+      }
+
+  pub passing_end : {k : ℕ} {cs' : List ℕ} → Passing s w n cs k cs' → n ≤ k → cs' ≡ rows_by s w n cs
+  passing_end {k} v l = let h = v.high in let e : k ≡ n = omega arith in v.same ∙ ap (λ (m : ℕ). rows_by s w m cs) e

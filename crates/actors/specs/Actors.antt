@@ -1,37 +1,39 @@
 -- Actors: opening an empty graph for a number of them, one more at a place, one less. The answers, and the tables afterwards.
 -- Assumes nothing.
-use Rattle.std.specs.Prelude.{cond, ◌&&◌, List, [], ◌∷◌, ℕ, zero, suc, ◌+◌, ◌*◌, ◌-◌, eqb, ltb, leb, get_or, set}
+use Rattle.std.specs.Prelude.{◌≡◌, Result, Ok, Err, cond, ◌&&◌, List, [], ◌∷◌, ℕ, zero, suc, ◌+◌, ◌*◌, ◌-◌, ◌<◌, eqb, ltb, leb, length, get_or, set}
+use denote.Ref.{MutBor}
+use Rattle.std.specs.Fn.{Shared}
 use Rattle.paper.specs.Numbers.{Outcome, number, done, no_actor, actor_has_changes, no_actor_room}
-use Rattle.clock.specs.Clock.{raised}
+use Rattle.clock.specs.Clock.{entry_of, raised}
 use Rattle.tables.specs.Tables.{Tables, changes, actors, actor_room, actor_at}
 use Rattle.tables.specs.Valid.{count_of}
-use Rattle.actors.specs.declared.ActorAnswer.{ActorAnswer}
-use Rattle.actors.specs.declared.ActorAnswer.TheVariants.{Done, NoActor, HasChanges, NoRoom}
+use Rattle.actors.specs.declared.ActorRefusal.{ActorRefusal}
+use Rattle.actors.specs.declared.ActorRefusal.TheVariants.{NoActor, HasChanges, NoRoom}
 
 -- ---- answers
 
 -- an answer in the paper's words
-abbrev pub actor_outcome : ActorAnswer → Outcome
-actor_outcome Done = done
-actor_outcome NoActor = no_actor
-actor_outcome HasChanges = actor_has_changes
-actor_outcome NoRoom = no_actor_room
+abbrev pub actor_outcome : Result (Unit {0}) ActorRefusal → Outcome
+actor_outcome (Ok x) = done
+actor_outcome (Err NoActor) = no_actor
+actor_outcome (Err HasChanges) = actor_has_changes
+actor_outcome (Err NoRoom) = no_actor_room
 
 -- the paper's number
-abbrev pub actor_number : ActorAnswer → ℕ
+abbrev pub actor_number : Result (Unit {0}) ActorRefusal → ℕ
 actor_number j = number (actor_outcome j)
 
 -- opening for a actors: 12 for more than there is room
-unfoldable pub opening : Tables → ℕ → ActorAnswer
-opening t a = cond (leb a (actor_room t)) Done NoRoom
+unfoldable pub opening : Tables → ℕ → Result (Unit {0}) ActorRefusal
+opening t a = cond (leb a (actor_room t)) (Ok tt) (Err NoRoom)
 
 -- one more at place p: 12 for a place above the count, and where there is no room
-unfoldable pub inserting : Tables → ℕ → ActorAnswer
-inserting t p = cond (leb p (actors t) && ltb (actors t) (actor_room t)) Done NoRoom
+unfoldable pub inserting : Tables → ℕ → Result (Unit {0}) ActorRefusal
+inserting t p = cond (leb p (actors t) && ltb (actors t) (actor_room t)) (Ok tt) (Err NoRoom)
 
 -- the one at place p away: 5 for a place not below the count, and then 11 where it has changes
-unfoldable pub removing : Tables → ℕ → ActorAnswer
-removing t p = cond (leb (actors t) p) NoActor (cond (eqb (count_of t.nodes p (changes t)) 0) Done HasChanges)
+unfoldable pub removing : Tables → ℕ → Result (Unit {0}) ActorRefusal
+removing t p = cond (leb (actors t) p) (Err NoActor) (cond (eqb (count_of t.nodes p (changes t)) 0) (Ok tt) (Err HasChanges))
 
 -- ---- numbers and clocks, where an actor comes in at place p (numbers p and above move up by one: `raised p`) or goes
 
@@ -89,9 +91,25 @@ actor_removed t p = renamed (lower p) (narrow p) (actors t - 1) t
 abbrev pub opened : Tables → ℕ → Tables
 opened t a = record { hashes = t.hashes; nodes = t.nodes; targets = t.targets; nexts = t.nexts; clocks = t.clocks; counts = 0 ∷ 0 ∷ a ∷ [] }
 
--- the new tables where the answer is Done, and else the old ones
-abbrev pub if_actors_done : ActorAnswer → Tables → Tables → Tables
-if_actors_done Done new old = new
-if_actors_done NoActor new old = old
-if_actors_done HasChanges new old = old
-if_actors_done NoRoom new old = old
+-- the new tables where the answer is Ok, and else the old ones
+abbrev pub if_actors_done : Result (Unit {0}) ActorRefusal → Tables → Tables → Tables
+if_actors_done (Ok x) new old = new
+if_actors_done (Err e) new old = old
+
+-- ---- a change of a row of w entries that is lent
+
+-- the row of which a function leaves `left` is changed by s, as a clock
+abbrev pub RowBy : ((ℕ → ℕ) → ℕ → ℕ) → ℕ → List ℕ → List ℕ → Type 0
+RowBy s w row left = (length left ≡ length row) × ((i : ℕ) → i < w → get_or left i 0 ≡ s (entry_of row) i)
+
+-- f may be called at a `&mut` to the row
+abbrev pub FnTakesAtMut : {F T R : Type 0} → Shared F (MutBor T × Unit {0}) R → F → T → Type 0
+FnTakesAtMut {F} {T} g f x = (p : MutBor T) → p.now ≡ x → g.pre f (p, tt)
+
+-- such a call may give r, and leave x' there
+pub record FnReturnsAtMut {F T R : Type 0} (g : Shared F (MutBor T × Unit {0}) (R × (MutBor T × Unit {0}))) (f : F) (x : T) (r : R) (x' : T) : Type 0 where
+  pub shown : MutBor T
+  pub shows : shown.now ≡ x
+  pub left : MutBor T
+  pub met : g.post f (shown, tt) (r, (left, tt))
+  pub leaves : left.now ≡ x'

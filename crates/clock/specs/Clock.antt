@@ -1,22 +1,20 @@
 -- What the operations on clocks do. A clock is a list of numbers, one for each actor, 0 for nothing.
 -- Assumes nothing.
-use Rattle.std.specs.Prelude.{ℕ, suc, max, List, [], ◌∷◌, ◌++◌, Bool, true, false, cond, ◌||◌, get_or, set, take, drop, eqb, ltb, leb}
-use Rattle.clock.specs.declared.Entry.{Entry}
-use Rattle.clock.specs.declared.Entry.TheVariants.{Sequence, Nothing}
+use Rattle.std.specs.Prelude.{Option, None, Some, ℕ, suc, max, List, [], ◌∷◌, ◌++◌, Bool, true, false, cond, ◌||◌, get_or, set, take, drop, eqb, ltb, leb}
 
 -- the clock as the paper has it, a function of the actor; past the end stands nothing
 abbrev pub entry_of : List ℕ → ℕ → ℕ
 entry_of c a = get_or c a 0
 
 -- the answer of include over the old entry: yes over nothing, also for the sequence 0, and over a smaller sequence
-abbrev pub takes : ℕ → Entry → Bool
-takes old (Sequence x) = eqb old 0 || ltb old x
-takes old Nothing = false
+abbrev pub takes : ℕ → Option ℕ → Bool
+takes old (Some x) = eqb old 0 || ltb old x
+takes old None = false
 
 -- the clock after include: the actor's entry where include answers yes, all else as it was
-abbrev pub included : List ℕ → ℕ → Entry → List ℕ
-included c a (Sequence x) = cond (takes (get_or c a 0) (Sequence x)) (set c a x) c
-included c a Nothing = c
+abbrev pub included : List ℕ → ℕ → Option ℕ → List ℕ
+included c a (Some x) = cond (takes (get_or c a 0) (Some x)) (set c a x) c
+included c a None = c
 
 -- the clock a after merge with b: the larger entry at each place that both have
 unfoldable pub joined : List ℕ → List ℕ → List ℕ

@@ -1,19 +1,18 @@
 -- Laws of clocks: joining is entry by entry and the least that covers both, covering is the paper's, include is a join with one entry; and the steps of
 -- the loops. Assumes nothing.
-use Rattle.std.specs.Prelude.{◌≡◌, refl, ◌↔◌, ℕ, zero, suc, ◌+◌, ◌<◌, ◌≤◌, max, List, [], ◌∷◌, Bool, true, false, cond, ◌||◌, length, drop, get_or, set, replicate, eqb, ltb, leb}
-use Rattle.std.proofs.Common.{sym, ap, ◌∙◌, ⊎_elim, not-suc-le-zero, le_of_suc-le-suc, add-one, arith, length-set, drop_of_length-le, ext_get_or, get_or-set_same, get_or-set_other}
+use Rattle.std.proofs.Math.Seq.{drop-cons}
+use Rattle.std.specs.Prelude.{Option, None, Some, ◌≡◌, refl, ◌↔◌, ℕ, zero, suc, ◌+◌, ◌<◌, ◌≤◌, max, min, List, [], ◌∷◌, Bool, true, false, cond, ◌||◌, ◌&&◌, length, drop, get_or, set, replicate, eqb, ltb, leb}
+use Rattle.std.specs.List.{list_all, zip}
+use Rattle.std.proofs.Common.{sym, ap, ◌∙◌, ⊎_elim, not-suc-le-zero, le_of_suc-le-suc, arith, length-set, ext_get_or, get_or-set_same, get_or-set_other, add-one, drop_of_length-le}
 use Rattle.std.proofs.Math.Nat.{max-zero}
 use Rattle.std.proofs.lemmas.Bool.{false≢true}
 use Rattle.std.proofs.lemmas.List.{length-replicate, get_or-replicate}
 use Rattle.std.proofs.Math.ListN.{get_or-eq_default}
-use Rattle.std.proofs.Math.Seq.{drop-cons}
-use borrow.Author.Tests.{le-leb, lt-leb, leb-true, eqb-true, ltb-true, ltb-false}
+use borrow.Author.Tests.{le-leb, leb-true, eqb-true, ltb-true, ltb-false, lt-leb}
 use Rattle.paper.specs.Graph.{Covers}
 use Rattle.list_laws.specs.Cases.{below_or_not, three_ways}
-use Rattle.list_laws.specs.Blend.{blend, blend_read, blend_set, blend_skip, blend_tail, blend_end}
+use Rattle.list_laws.specs.Blend.{blend, blend_read, blend_set, blend_tail, blend_end, blend_skip}
 use Rattle.clock.specs.Clock.{entry_of, included, joined, covers_all, isolated, op_covers}
-use Rattle.clock.specs.declared.Entry.{Entry}
-use Rattle.clock.specs.declared.Entry.TheVariants.{Sequence, Nothing}
 
 pub length_joined : (a b : List ℕ) → length (joined a b) ≡ length a
 unfolding joined
@@ -37,19 +36,16 @@ drop_joined (x ∷ xs) [] i l = refl
 drop_joined (x ∷ xs) (y ∷ ys) zero l = absurd (not-suc-le-zero l)
 drop_joined (x ∷ xs) (y ∷ ys) (suc i) l = drop_joined xs ys i (le_of_suc-le-suc l)
 
--- one step of covers, where it stands at i
-module _ (a b : List ℕ) (i : ℕ) (la : i < length a) (lb : i < length b) where
-  pub covers_step : get_or b i 0 ≤ get_or a i 0 → covers_all (drop i a) (drop i b) ≡ covers_all (drop (i + 1) a) (drop (i + 1) b)
-  unfolding covers_all
-  covers_step e = rw (drop-cons a i 0 la, drop-cons b i 0 lb, le-leb _ _ e, add-one)
-
-  pub covers_stop : get_or a i 0 < get_or b i 0 → covers_all (drop i a) (drop i b) ≡ false
-  unfolding covers_all
-  covers_stop e = rw (drop-cons a i 0 la, drop-cons b i 0 lb, lt-leb _ _ e)
-
-pub covers_end : (a b : List ℕ) (i : ℕ) → length a ≤ i → covers_all (drop i a) (drop i b) ≡ true
+-- the same said of the pairs
+pub covers_pairs : (a b : List ℕ) → covers_all a b ≡ list_all (λ (p : ℕ × ℕ). leb p.1 p.0) (zip a b)
 unfolding covers_all
-covers_end a b i l = rw (drop_of_length-le a {i = i} l)
+covers_pairs [] b = refl
+covers_pairs (x ∷ xs) [] = refl
+covers_pairs (x ∷ xs) (y ∷ ys) = go (covers_pairs xs ys) (leb y x)
+  where
+    go : {r : Bool} → covers_all xs ys ≡ r → (t : Bool) → cond t (covers_all xs ys) false ≡ (t && r)
+    go e true = e
+    go e false = refl
 
 -- clocks of one length: the one covers the other exactly where no entry of the other is larger
 pub covers_iff : (a b : List ℕ) → length a ≡ length b → (covers_all a b ≡ true) ↔ ((i : ℕ) → get_or b i 0 ≤ get_or a i 0)
@@ -141,7 +137,7 @@ module _ (old x : ℕ) where
   no_ge false p q = ltb-false old x q
 
 module _ (c : List ℕ) (a x : ℕ) (l : a < length c) where
-  pub length_included : length (included c a (Sequence x)) ≡ length c
+  pub length_included : length (included c a (Some x)) ≡ length c
   length_included = go (eqb (get_or c a 0) 0 || ltb (get_or c a 0) x)
     where
       go : (b : Bool) → length (cond b (set c a x) c) ≡ length c
@@ -149,14 +145,14 @@ module _ (c : List ℕ) (a x : ℕ) (l : a < length c) where
       go false = refl
 
   -- the larger of the old entry and the sequence
-  pub included_here : entry_of (included c a (Sequence x)) a ≡ max (entry_of c a) x
+  pub included_here : entry_of (included c a (Some x)) a ≡ max (entry_of c a) x
   included_here = go (eqb (get_or c a 0) 0 || ltb (get_or c a 0) x) refl
     where
       go : (b : Bool) → (eqb (get_or c a 0) 0 || ltb (get_or c a 0) x) ≡ b → get_or (cond b (set c a x) c) a 0 ≡ max (get_or c a 0) x
       go true p = let h = yes_le (get_or c a 0) x (eqb (get_or c a 0) 0) refl p in get_or-set_same c a x 0 l ∙ omega arith
       go false p = let h = no_ge (get_or c a 0) x (eqb (get_or c a 0) 0) refl p in omega arith
 
-  pub included_other : (i : ℕ) → (i ≡ a → ⊥) → entry_of (included c a (Sequence x)) i ≡ entry_of c i
+  pub included_other : (i : ℕ) → (i ≡ a → ⊥) → entry_of (included c a (Some x)) i ≡ entry_of c i
   included_other i ne = go (eqb (get_or c a 0) 0 || ltb (get_or c a 0) x)
     where
       go : (b : Bool) → get_or (cond b (set c a x) c) i 0 ≡ get_or c i 0
@@ -171,35 +167,35 @@ module _ (c : List ℕ) (a x : ℕ) (l : a < length c) where
   single_long = length-set (replicate (length c) 0) a x ∙ length-replicate {A = ℕ} (length c) 0
 
   -- include is the join with it
-  pub included_joined : included c a (Sequence x) ≡ joined c (set (replicate (length c) 0) a x)
+  pub included_joined : included c a (Some x) ≡ joined c (set (replicate (length c) 0) a x)
   included_joined =
-      ext_get_or 0 (included c a (Sequence x)) (joined c single) (length_included ∙ sym (length_joined c single)) (λ i h. at i (omega (arith, length_included)))
+      ext_get_or 0 (included c a (Some x)) (joined c single) (length_included ∙ sym (length_joined c single)) (λ i h. at i (omega (arith, length_included)))
     where
-      other : (i : ℕ) → i < length c → (i ≡ a → ⊥) → get_or (included c a (Sequence x)) i 0 ≡ get_or (joined c single) i 0
+      other : (i : ℕ) → i < length c → (i ≡ a → ⊥) → get_or (included c a (Some x)) i 0 ≡ get_or (joined c single) i 0
       other i h ne =
           let u = included_other i ne in
           let v = get_d_joined c single i h in
           let w : get_or single i 0 ≡ 0 = get_or-set_other (replicate (length c) 0) a i x 0 ne ∙ get_or-replicate {A = ℕ} (length c) i 0 0 h in
           omega arith
 
-      here : get_or (included c a (Sequence x)) a 0 ≡ get_or (joined c single) a 0
+      here : get_or (included c a (Some x)) a 0 ≡ get_or (joined c single) a 0
       here =
           let u = included_here in
           let v = get_d_joined c single a l in
           let w : get_or single a 0 ≡ x = get_or-set_same (replicate (length c) 0) a x 0 (omega (arith, length-replicate {A = ℕ} (length c) 0)) in
           omega arith
 
-      at : (i : ℕ) → i < length c → get_or (included c a (Sequence x)) i 0 ≡ get_or (joined c single) i 0
+      at : (i : ℕ) → i < length c → get_or (included c a (Some x)) i 0 ≡ get_or (joined c single) i 0
       at i h =
           ⊎_elim (λ q. other i h (λ e. absurd (omega arith)))
-          (λ r. ⊎_elim (λ e. ap (λ (k : ℕ). get_or (included c a (Sequence x)) k 0) e ∙ (here ∙ ap (λ (k : ℕ). get_or (joined c single) k 0) (sym e))) (λ q. other i h (λ e. absurd (omega arith))) r)
+          (λ r. ⊎_elim (λ e. ap (λ (k : ℕ). get_or (included c a (Some x)) k 0) e ∙ (here ∙ ap (λ (k : ℕ). get_or (joined c single) k 0) (sym e))) (λ q. other i h (λ e. absurd (omega arith))) r)
           (three_ways i a)
 
 -- the clock never falls
-pub included_grows : (c : List ℕ) (a : ℕ) (e : Entry) → a < length c → Covers (entry_of (included c a e)) (entry_of c)
+pub included_grows : (c : List ℕ) (a : ℕ) (e : Option ℕ) → a < length c → Covers (entry_of (included c a e)) (entry_of c)
 unfolding Covers
-included_grows c a (Sequence x) l = λ i. rw (included_joined c a x l) (joined_left c (set (replicate (length c) 0) a x) i)
-included_grows c a Nothing l = λ i. omega arith
+included_grows c a (Some x) l = λ i. rw (included_joined c a x l) (joined_left c (set (replicate (length c) 0) a x) i)
+included_grows c a None l = λ i. omega arith
 
 -- ---- isolate: every counter of 32 bits is covered
 
@@ -207,6 +203,37 @@ pub isolated_covers : (c : List ℕ) (a counter : ℕ) → a < length c → coun
 isolated_covers c a counter l h = rw (get_or-set_same c a 4294967295 0 l) (le-leb counter 4294967295 h)
 
 -- ---- steps of merge
+
+-- one step of merge, where it stands at i: the list is the old one with its first i entries joined
+pub merge_step : (a₀ b a : List ℕ) (i : ℕ) → a ≡ blend i (joined a₀ b) a₀ → i < length a₀ → set a i (max (get_or a i 0) (get_or b i 0)) ≡ blend (i + 1) (joined a₀ b) a₀
+merge_step a₀ b a i inv l =
+    let in_t : i < length (joined a₀ b) = omega (arith, length_joined a₀ b) in
+    let old : get_or a i 0 ≡ get_or a₀ i 0 = rw inv (blend_read i (joined a₀ b) a₀ in_t l) in
+    let e : max (get_or a i 0) (get_or b i 0) ≡ get_or (joined a₀ b) i 0 = ap (λ (x : ℕ). max x (get_or b i 0)) old ∙ sym (get_d_joined a₀ b i l) in
+    ap (set a i) e ∙ (ap (λ (x : List ℕ). set x i (get_or (joined a₀ b) i 0)) inv ∙ blend_set i (joined a₀ b) a₀ in_t l)
+
+-- the end: one of the two clocks has no more entries
+pub merge_end : (a₀ b a : List ℕ) (i : ℕ) → a ≡ blend i (joined a₀ b) a₀ → min (length a₀) (length b) ≤ i → a ≡ joined a₀ b
+merge_end a₀ b a i inv l =
+    inv
+    ∙ ⊎_elim (λ h. blend_tail i (joined a₀ b) a₀ (drop_joined a₀ b i (omega arith))) (λ h. blend_end i (joined a₀ b) a₀ (length_joined a₀ b) h)
+    (below_or_not i (length a₀))
+
+-- ---- laws that no proof needs any more
+
+-- one step of covers, where it stands at i
+module _ (a b : List ℕ) (i : ℕ) (la : i < length a) (lb : i < length b) where
+  pub covers_step : get_or b i 0 ≤ get_or a i 0 → covers_all (drop i a) (drop i b) ≡ covers_all (drop (i + 1) a) (drop (i + 1) b)
+  unfolding covers_all
+  covers_step e = rw (drop-cons a i 0 la, drop-cons b i 0 lb, le-leb _ _ e, add-one)
+
+  pub covers_stop : get_or a i 0 < get_or b i 0 → covers_all (drop i a) (drop i b) ≡ false
+  unfolding covers_all
+  covers_stop e = rw (drop-cons a i 0 la, drop-cons b i 0 lb, lt-leb _ _ e)
+
+pub covers_end : (a b : List ℕ) (i : ℕ) → length a ≤ i → covers_all (drop i a) (drop i b) ≡ true
+unfolding covers_all
+covers_end a b i l = rw (drop_of_length-le a {i = i} l)
 
 -- one step of merge, where it stands at i: the list is the old one with its first i entries joined
 module _ (a₀ b a : List ℕ) (i : ℕ) (inv : a ≡ blend i (joined a₀ b) a₀) (l : i < length a₀) where
@@ -226,6 +253,3 @@ module _ (a₀ b a : List ℕ) (i : ℕ) (inv : a ≡ blend i (joined a₀ b) a�
 
 pub merge_past : (a₀ b a : List ℕ) (i : ℕ) → a ≡ blend i (joined a₀ b) a₀ → length b ≤ i → a ≡ joined a₀ b
 merge_past a₀ b a i inv l = inv ∙ blend_tail i (joined a₀ b) a₀ (drop_joined a₀ b i l)
-
-pub merge_end : (a₀ b a : List ℕ) (i : ℕ) → a ≡ blend i (joined a₀ b) a₀ → length a₀ ≤ i → a ≡ joined a₀ b
-merge_end a₀ b a i inv l = inv ∙ blend_end i (joined a₀ b) a₀ (length_joined a₀ b) l

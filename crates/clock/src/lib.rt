@@ -6,16 +6,9 @@ ghost use Rattle.std.specs.Prelude.{◌≡◌, Bool, ◌+◌, ◌<◌, ◌≤◌
 ghost use Rattle.clock.specs.Clock.{takes, included, joined, covers_all, isolated, op_covers, inserted, removed};
 ghost use Rattle.clock.specs.Range.{which_after, InAfter, InBefore, visible_after, visible_before};
 
-// A sequence to enter, or none.
-#[derive(Clone, Copy)]
-pub enum Entry {
-    Sequence(u32),
-    Nothing,
-}
-
 // The kind of a range, beside its two clocks `before` and `after`: the current state with no clock, the current state at the clock `after`, and
 // what lies between the two.
-#[derive(Clone, Copy)]
+#[derive(Clone, Copy, PartialEq, Eq, Debug)]
 pub enum Range {
     Current,
     CurrentAt,
@@ -23,7 +16,7 @@ pub enum Range {
 }
 
 // One of a range's two clocks, or none.
-#[derive(Clone, Copy)]
+#[derive(Clone, Copy, PartialEq, Eq, Debug)]
 pub enum Which {
     Before,
     After,
@@ -36,28 +29,20 @@ pub enum Which {
 pub fn get(clock: &[u32], a: usize) -> u32
     ensures { result ≡ get_or clock.now a 0 }
 {
-    if a < clock.len() { clock[a] } else { 0 }
+    clock.get(a).copied().unwrap_or(0)
 }
 
 // Enters a sequence of actor a where nothing stands or a smaller one; says whether.
-pub fn include(clock: &mut [u32], a: usize, entry: Entry) -> bool
+pub fn include(clock: &mut [u32], a: usize, sequence: Option<u32>) -> bool
     requires { a < length clock.old }
-    ensures { (result ≡ takes (get_or clock.old a 0) entry) × (clock.new ≡ included clock.old a entry) }
+    ensures { (result ≡ takes (get_or clock.old a 0) sequence) × (clock.new ≡ included clock.old a sequence) }
 {
-    match entry {
-        Entry::Sequence(x) => {
-            let old = clock[a];
-            if old == 0 {
-                clock[a] = x;
-                return true;
-            }
-            if old < x {
-                clock[a] = x;
-                return true;
-            }
-            false
+    match sequence {
+        Some(x) if clock[a] == 0 || clock[a] < x => {
+            clock[a] = x;
+            true
         }
-        Entry::Nothing => false,
+        _ => false,
     }
 }
 
@@ -65,16 +50,8 @@ pub fn include(clock: &mut [u32], a: usize, entry: Entry) -> bool
 pub fn merge(a: &mut [u32], b: &[u32])
     ensures { a.new ≡ joined a.old b.now }
 {
-    let mut i = 0;
-    while i < a.len() {
-        if b.len() <= i {
-            return;
-        }
-        let y = b[i];
-        if a[i] < y {
-            a[i] = y;
-        }
-        i += 1;
+    for i in 0..a.len().min(b.len()) {
+        a[i] = a[i].max(b[i]);
     }
 }
 
@@ -83,16 +60,7 @@ pub fn covers(a: &[u32], b: &[u32]) -> bool
     requires { length a.now ≡ length b.now }
     ensures { result ≡ covers_all a.now b.now }
 {
-    let mut i = 0;
-    while i < a.len() {
-        let x = a[i];
-        let y = b[i];
-        if x < y {
-            return false;
-        }
-        i += 1;
-    }
-    true
+    a.iter().zip(b).all(|(x, y)| *y <= *x)
 }
 
 // The actor's entry becomes the largest number.
@@ -100,13 +68,7 @@ pub fn isolate(clock: &mut [u32], a: usize)
     requires { a < length clock.old }
     ensures { clock.new ≡ isolated clock.old a }
 {
-    clock[a] = 4294967295;
-}
-
-fn wide(x: u32) -> u64
-    ensures { result ≡ x }
-{
-    x as u64
+    clock[a] = u32::MAX;
 }
 
 // An op clock covers an op whose counter is not above its actor's entry.
@@ -114,7 +76,7 @@ pub fn op_covers(clock: &[u32], a: usize, counter: u64) -> bool
     requires { a < length clock.now }
     ensures { result ≡ op_covers clock.now a counter }
 {
-    counter <= wide(clock[a])
+    counter <= u64::from(clock[a])
 }
 
 // A new actor at place p of a clock whose first n entries are in use: it has nothing, and the entries from p on go one place up, over what stood at n.
@@ -122,14 +84,8 @@ pub fn rewrite_with_new_actor(clock: &mut [u32], n: usize, p: usize)
     requires { (p ≤ n) × (n < length clock.old) }
     ensures { clock.new ≡ inserted clock.old n p }
 {
-    let mut carried = 0;
-    let mut i = p;
-    while i <= n {
-        let old = clock[i];
-        clock[i] = carried;
-        carried = old;
-        i += 1;
-    }
+    clock.copy_within(p..n, p + 1);
+    clock[p] = 0;
 }
 
 // The actor at place p goes: the entries in use past p go one place down, and the place that falls free holds nothing.
@@ -137,14 +93,8 @@ pub fn remove_actor(clock: &mut [u32], n: usize, p: usize)
     requires { (p < n) × (n ≤ length clock.old) }
     ensures { clock.new ≡ removed clock.old n p }
 {
-    let last = n - 1;
-    let mut j = p;
-    while j < last {
-        let next = clock[j + 1];
-        clock[j] = next;
-        j += 1;
-    }
-    clock[last] = 0;
+    clock.copy_within(p + 1..n, p);
+    clock[n - 1] = 0;
 }
 
 // ---- the range: a kind beside two clocks
@@ -155,8 +105,7 @@ pub fn after(kind: Range) -> Which
 {
     match kind {
         Range::Current => Which::Neither,
-        Range::CurrentAt => Which::After,
-        Range::Diff => Which::After,
+        Range::CurrentAt | Range::Diff => Which::After,
     }
 }
 
@@ -167,8 +116,7 @@ pub fn visible_after(kind: Range, before: &[u32], after: &[u32], actor: usize, c
 {
     match kind {
         Range::Current => true,
-        Range::CurrentAt => op_covers(after, actor, counter),
-        Range::Diff => op_covers(after, actor, counter),
+        Range::CurrentAt | Range::Diff => op_covers(after, actor, counter),
     }
 }
 
@@ -178,8 +126,7 @@ pub fn predates(kind: Range, before: &[u32], after: &[u32], actor: usize, counte
     ensures { result ≡ visible_before kind before.now actor counter }
 {
     match kind {
-        Range::Current => false,
-        Range::CurrentAt => false,
+        Range::Current | Range::CurrentAt => false,
         Range::Diff => op_covers(before, actor, counter),
     }
 }

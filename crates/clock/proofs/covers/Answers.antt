@@ -1,13 +1,13 @@
--- Each way through the loop by its step on the rests.
-use Rattle.std.proofs.Common.{sym, ◌∙◌, arith}
-use Rattle.clock.specs.ClockLaws.{covers_step, covers_stop, covers_end}
+-- The pairs of entries, all of which are looked at.
+use Rattle.std.proofs.Common.{rules, tests, leb, ◌∙◌, ℕ, sym}
+use Rattle.std.proofs.lemmas.Iterator.{YieldsList-from_slice, YieldsList-from_zip}
+use Rattle.std.proofs.lemmas.Iterator.Search.{all_from_yields_List}
+use Rattle.clock.specs.ClockLaws.{covers_pairs}
 use Rattle.clock.proofs.covers.Goals as goal
 
-pub returns-then-x-y : goal.returns-then-x-y
-returns-then-x-y c = sym (c.loop-i.invariant.1 ∙ covers_stop _ _ _ c.loop-i-test.true (omega arith) c.if-x-y.true)
-
-pub loop-i-preserved : goal.loop-i-preserved
-loop-i-preserved c = (omega arith, c.loop-i.invariant.1 ∙ covers_step _ _ _ c.loop-i-test.true (omega arith) c.if-x-y.false)
-
 pub returns : goal.returns
-returns c = sym (c.loop-i.invariant.1 ∙ covers_end _ _ _ c.loop-i-test.false)
+returns c =
+    all_from_yields_List (λ (p : ℕ × ℕ). leb p.1 p.0) c.all.new.self _ _ c.all.ensures.ran
+    (YieldsList-from_zip (YieldsList-from_slice c.args.a.now cc) (YieldsList-from_slice c.args.b.now cc))
+    (λ x b q k. search (rules, tests))
+    ∙ sym (covers_pairs c.args.a.now c.args.b.now)

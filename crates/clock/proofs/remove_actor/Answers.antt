@@ -1,15 +1,8 @@
--- `Leaving` begins, goes on and ends.
-use Rattle.std.proofs.Common.{◌≡◌, ◌-◌, arith}
-use Rattle.clock.specs.Steps.{leaving_start, leaving_next, leaving_end}
+-- What `copy_within` left, index by index, and 0 at the place that fell free.
+use Rattle.clock.specs.Moves.{moved_down}
 use Rattle.clock.proofs.remove_actor.Goals as goal
-
-pub loop-j-init : goal.loop-j-init
-loop-j-init c = leaving_start _ _ _ c.requires.0 c.requires.1
-
-pub loop-j-preserved : goal.loop-j-preserved
-loop-j-preserved c = leaving_next _ _ _ c.requires.0 c.requires.1 c.loop-j.invariant (omega arith)
 
 pub returns : goal.returns
 returns c =
-    let e : c.args.n - 1 ≡ c.loop-j.j = omega (arith, c.loop-j.invariant.to) in
-    rw e (leaving_end _ _ _ c.requires.0 c.requires.1 c.loop-j.invariant (omega arith))
+    let m = c.copy_within.ensures.by_index in
+    moved_down _ _ _ _ c.copy_within.ensures.len c.requires.0 c.requires.1 m.0 m.1 m.2

@@ -1,12 +1,8 @@
--- `Entering` begins, goes on and ends.
-use Rattle.clock.specs.Steps.{entering_start, entering_next, entering_end}
+-- What `copy_within` left, index by index, and 0 at p.
+use Rattle.clock.specs.Moves.{moved_up}
 use Rattle.clock.proofs.rewrite_with_new_actor.Goals as goal
 
-pub loop-i-init : goal.loop-i-init
-loop-i-init c = entering_start _ _ _ c.requires.0 c.requires.1
-
-pub loop-i-preserved : goal.loop-i-preserved
-loop-i-preserved c = entering_next _ _ _ c.requires.0 c.requires.1 c.loop-i.invariant c.loop-i-test.true
-
 pub returns : goal.returns
-returns c = entering_end _ _ _ c.requires.0 c.requires.1 c.loop-i.invariant c.loop-i-test.false
+returns c =
+    let m = c.copy_within.ensures.by_index in
+    moved_up _ _ _ _ c.copy_within.ensures.len c.requires.0 c.requires.1 m.0 m.1 m.2
