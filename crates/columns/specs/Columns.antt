@@ -1,28 +1,33 @@
 -- What the checks over the columns answer, over plain lists; put together they are the paper's conditions.
 -- Assumes nothing.
-use Rattle.std.specs.Prelude.{Bool, not, ◌&&◌, ◌||◌, List, ℕ, suc, ◌/◌, eqb, ltb, leb, length, get_or, take, drop}
+use Rattle.std.specs.Prelude.{◌≡◌, Bool, not, ◌&&◌, ◌||◌, List, ℕ, suc, ◌/◌, ◌≤◌, eqb, ltb, leb, length, get_or, take, drop, Result, Ok, Err}
 use Rattle.paper.specs.Lists.{mem, tally, some_below, all_below, all_in, sum_below, same_list, hash_at}
 use Rattle.paper.specs.Numbers.{Outcome, number, done, malformed, no_actor_room, columns_disagree, no_node_room, no_edge_room}
 use Rattle.paper.specs.Loading.{Columns, listed_changes}
-use Rattle.columns.specs.declared.Loading.{Loading}
-use Rattle.columns.specs.declared.Loading.TheVariants.{Done, Malformed, NoActorRoom, Disagree, NoNodeRoom, NoEdgeRoom}
+use Rattle.columns.specs.declared.LoadRefusal.{LoadRefusal}
+use Rattle.columns.specs.declared.LoadRefusal.TheVariants.{Malformed, NoActorRoom, Disagree, NoNodeRoom, NoEdgeRoom}
+use Rattle.columns.specs.declared.Columns as lent
 
 -- an answer in the paper's words, and its number
-abbrev pub loading_outcome : Loading → Outcome
-loading_outcome Done = done
-loading_outcome Malformed = malformed
-loading_outcome NoActorRoom = no_actor_room
-loading_outcome Disagree = columns_disagree
-loading_outcome NoNodeRoom = no_node_room
-loading_outcome NoEdgeRoom = no_edge_room
+abbrev pub loading_outcome : Result Unit LoadRefusal → Outcome
+loading_outcome (Ok _) = done
+loading_outcome (Err Malformed) = malformed
+loading_outcome (Err NoActorRoom) = no_actor_room
+loading_outcome (Err Disagree) = columns_disagree
+loading_outcome (Err NoNodeRoom) = no_node_room
+loading_outcome (Err NoEdgeRoom) = no_edge_room
 
-abbrev pub loading_number : Loading → ℕ
+abbrev pub loading_number : Result Unit LoadRefusal → ℕ
 loading_number l = number (loading_outcome l)
 
 -- the columns from their lists
 abbrev pub columns : List ℕ → List ℕ → List ℕ → List ℕ → List ℕ → List ℕ → List ℕ → List ℕ → ℕ → Columns
 columns hs ws ss ms os ds vs ts a =
     record { hashes = hs; actors = ws; seqs = ss; max_ops = ms; op_counts = os; dep_counts = ds; dep_values = vs; heads = ts; actor_count = a }
+
+-- the columns that are lent
+abbrev pub listed : lent.Columns → Columns
+listed c = columns c.ids.now c.actors.now c.seqs.now c.maxes.now c.ops.now c.deps.now c.values.now c.heads.now c.count
 
 -- ---- of change k
 
@@ -110,3 +115,17 @@ heads_test c = column_heads_right c.hashes (listed_changes c) (take (total c.dep
 
 abbrev pub checks : Columns → Bool
 checks c = lengths_test c && (actors_test c && (ops_test c && (enough_test c && (deps_test c && (runs_test c && (new_test c && heads_test c))))))
+
+-- ---- what the checks go by
+
+-- the columns have one entry for each change
+pub record OneEach (c : Columns) : Type 0 where
+  pub actors : length c.actors ≡ listed_changes c
+  pub seqs : length c.seqs ≡ listed_changes c
+  pub maxes : length c.max_ops ≡ listed_changes c
+  pub ops : length c.op_counts ≡ listed_changes c
+  pub deps : length c.dep_counts ≡ listed_changes c
+
+-- there are values for the dependencies of all changes
+abbrev pub HasValues : Columns → Type 0
+HasValues c = total c.dep_counts (listed_changes c) ≤ length c.dep_values

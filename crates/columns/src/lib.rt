@@ -1,18 +1,15 @@
 // Decoded load columns: whether they agree, and what loading them comes to. Nothing is kept between the checks: each one scans the
-// columns, however long they are and whatever 64-bit numbers they hold. The columns: the changes' hashes, 32 bytes each, their actors,
-// sequences, max ops, op counts and how many dependencies each has; the values, which are the dependencies of all changes as node
-// numbers, one after the other; and the stated heads.
+// columns, however long they are and whatever 64-bit numbers they hold.
 #![tactic(auto)]
 
-ghost use Rattle.std.specs.Prelude.{◌≡◌, Bool, not, ◌&&◌, ◌||◌, ◌+◌, ◌*◌, ◌/◌, ◌≤◌, ◌<◌, eqb, leb, length, get_or};
-ghost use Rattle.paper.specs.Lists.{mem, tally, some_below, all_below, all_in, same_list, hash_at};
+ghost use Rattle.std.specs.Prelude.{◌≡◌, ◌+◌, ◌*◌, ◌/◌, ◌≤◌, ◌<◌, eqb, length, get_or, if◌then◌else◌};
+ghost use Rattle.paper.specs.Lists.{mem, tally, some_below, all_below, all_in};
 ghost use Rattle.paper.specs.Loading.{agree, judged_load};
-ghost use Rattle.columns.specs.Columns.{columns, loading_outcome, loading_number, actor_is_low, column_ops_right, few, runs_on, total, deps_at, dep_right, is_known, is_new, column_head_is, stated_right, head_told, column_heads_right, lengths_are};
+ghost use Rattle.columns.specs.Columns.{listed, loading_outcome, loading_number, OneEach, HasValues, total, dep_right, is_known, column_head_is, stated_right, head_told, column_heads_right, lengths_test, actors_test, ops_test, enough_test, deps_test, runs_test, new_test};
 
-// What loading comes to.
-#[derive(Clone, Copy)]
-pub enum Loading {
-    Done,
+// Why columns are not loaded.
+#[derive(Clone, Copy, PartialEq, Eq, Debug)]
+pub enum LoadRefusal {
     Malformed,
     NoActorRoom,
     Disagree,
@@ -20,155 +17,34 @@ pub enum Loading {
     NoEdgeRoom,
 }
 
+// The columns as they are lent: the changes' hashes, 32 bytes each, their actors, sequences, max ops, op counts and how many
+// dependencies each has; the values, which are the dependencies of all changes as node numbers, one after the other; the stated heads;
+// and how many actors there are.
+#[derive(Clone, Copy)]
+pub struct Columns<'a> {
+    pub ids: &'a [u8],
+    pub actors: &'a [u64],
+    pub seqs: &'a [u64],
+    pub maxes: &'a [u64],
+    pub ops: &'a [u64],
+    pub deps: &'a [u64],
+    pub values: &'a [u64],
+    pub heads: &'a [u8],
+    pub count: u64,
+}
+
 // The paper's number.
-pub fn number(l: Loading) -> u32
-    ensures { result ≡ loading_number l }
+pub fn number(loaded: Result<(), LoadRefusal>) -> u32
+    ensures { result ≡ loading_number loaded }
 {
-    match l {
-        Loading::Done => 0,
-        Loading::Malformed => 2,
-        Loading::NoActorRoom => 12,
-        Loading::Disagree => 18,
-        Loading::NoNodeRoom => 9,
-        Loading::NoEdgeRoom => 10,
+    match loaded {
+        Ok(()) => 0,
+        Err(LoadRefusal::Malformed) => 2,
+        Err(LoadRefusal::NoActorRoom) => 12,
+        Err(LoadRefusal::Disagree) => 18,
+        Err(LoadRefusal::NoNodeRoom) => 9,
+        Err(LoadRefusal::NoEdgeRoom) => 10,
     }
-}
-
-// Whether the first n actors are below the count.
-fn actors_low(actors: &[u64], n: usize, count: u64) -> bool
-    requires { n ≤ length actors.now }
-    ensures { result ≡ all_below (actor_is_low actors.now count) n }
-{
-    let mut k = 0;
-    while k < n {
-        if count <= actors[k] {
-            return false;
-        }
-        k += 1;
-    }
-    true
-}
-
-// Whether rule 7 holds of the first n changes.
-fn ops_right(maxes: &[u64], ops: &[u64], n: usize) -> bool
-    requires { (n ≤ length maxes.now) × (n ≤ length ops.now) }
-    ensures { result ≡ all_below (column_ops_right maxes.now ops.now) n }
-{
-    let mut k = 0;
-    while k < n {
-        if 4294967295 < maxes[k] {
-            return false;
-        }
-        if maxes[k] < ops[k] {
-            return false;
-        }
-        k += 1;
-    }
-    true
-}
-
-// Whether none of the first n changes has more than 32 dependencies, and there are values for all of them.
-fn deps_enough(deps: &[u64], n: usize, values: usize) -> bool
-    requires { n ≤ length deps.now }
-    ensures { result ≡ (all_below (few deps.now) n && leb (total deps.now n) values) }
-{
-    let mut at: usize = 0;
-    let mut k = 0;
-    while k < n {
-        let d = deps[k];
-        if 32 < d {
-            return false;
-        }
-        if values - at < d as usize {
-            return false;
-        }
-        at += d as usize;
-        k += 1;
-    }
-    true
-}
-
-// How many dependencies the first n changes have, where there are values for all of them.
-fn dep_count(deps: &[u64], n: usize, values: usize) -> usize
-    requires { (n ≤ length deps.now) × (total deps.now n ≤ values) }
-    ensures { result ≡ total deps.now n }
-{
-    let mut at: usize = 0;
-    let mut k = 0;
-    while k < n {
-        at += deps[k] as usize;
-        k += 1;
-    }
-    at
-}
-
-// Whether each of the dependencies is below node k, and has no larger max op.
-fn node_right(values: &[u64], maxes: &[u64], k: usize) -> bool
-    requires { k < length maxes.now }
-    ensures { result ≡ all_in (dep_right maxes.now k) values.now }
-{
-    let mut i = 0;
-    while i < values.len() {
-        let j = values[i] as usize;
-        if k <= j {
-            return false;
-        }
-        if maxes[k] < maxes[j] {
-            return false;
-        }
-        i += 1;
-    }
-    true
-}
-
-// The same of the first n changes.
-fn deps_right(deps: &[u64], values: &[u64], maxes: &[u64], n: usize) -> bool
-    requires { (n ≤ length deps.now) × (n ≤ length maxes.now) × (total deps.now n ≤ length values.now) }
-    ensures { result ≡ all_below (λ k. all_in (dep_right maxes.now k) (deps_at deps.now values.now k)) n }
-{
-    let mut at: usize = 0;
-    let mut k = 0;
-    while k < n {
-        let d = deps[k] as usize;
-        if !node_right(&values[at..at + d], maxes, k) {
-            return false;
-        }
-        at += d;
-        k += 1;
-    }
-    true
-}
-
-// How many of the first k changes are the actor's.
-fn count_before(actors: &[u64], k: usize, actor: u64) -> usize
-    requires { k ≤ length actors.now }
-    ensures { result ≡ tally (λ j. eqb (get_or actors.now j 0) actor) k }
-{
-    let mut c: usize = 0;
-    let mut j = 0;
-    while j < k {
-        if actors[j] == actor {
-            c += 1;
-        }
-        j += 1;
-    }
-    c
-}
-
-// Whether each actor's sequences run 1, 2, 3 over the first n changes.
-fn sequences_run(actors: &[u64], seqs: &[u64], n: usize) -> bool
-    requires { (n ≤ length actors.now) × (n ≤ length seqs.now) }
-    ensures { result ≡ all_below (runs_on actors.now seqs.now) n }
-{
-    let mut k = 0;
-    while k < n {
-        let c = count_before(actors, k, actors[k]);
-        if seqs[k] != c as u64 + 1 {
-            return false;
-        }
-        k += 1;
-    }
-    true
 }
 
 // Whether the hash is one of the table's first n.
@@ -176,236 +52,239 @@ fn known(hashes: &[u8], n: usize, hash: &[u8]) -> bool
     requires { (32 * n ≤ length hashes.now) × (length hash.now ≡ 32) }
     ensures { result ≡ is_known hashes.now n hash.now }
 {
-    let mut j = 0;
-    while j < n {
+    for j in 0..n {
         if hash::same_at(hashes, j, hash) {
             return true;
         }
-        j += 1;
     }
     false
-}
-
-// Whether the first n hashes are distinct.
-fn distinct(hashes: &[u8], n: usize) -> bool
-    requires { 32 * n ≤ length hashes.now }
-    ensures { result ≡ all_below (is_new hashes.now) n }
-{
-    let mut k = 0;
-    while k < n {
-        let p = 32 * k;
-        if known(hashes, k, &hashes[p..p + 32]) {
-            return false;
-        }
-        k += 1;
-    }
-    true
 }
 
 // Whether node k is one of the dependencies.
 fn wanted(values: &[u64], k: usize) -> bool
     ensures { result ≡ mem k values.now }
 {
-    let mut i = 0;
-    while i < values.len() {
-        if values[i] as usize == k {
-            return true;
+    values.contains(&(k as u64))
+}
+
+impl Columns<'_> {
+    // How many changes are listed.
+    fn changes(&self) -> usize
+        ensures { result ≡ length self.now.ids.now / 32 }
+    {
+        self.ids.len() / 32
+    }
+
+    // Whether the columns have one entry for each change.
+    fn lengths_equal(&self) -> bool
+        ensures { result ≡ lengths_test (listed self.now) }
+    {
+        let n = self.changes();
+        self.actors.len() == n
+            && self.seqs.len() == n
+            && self.maxes.len() == n
+            && self.ops.len() == n
+            && self.deps.len() == n
+    }
+
+    // Whether the actors are below the count.
+    fn actors_low(&self) -> bool
+        requires { OneEach (listed self.now) }
+        ensures { result ≡ actors_test (listed self.now) }
+    {
+        self.actors.iter().all(|actor| *actor < self.count)
+    }
+
+    // Whether rule 7 holds of all changes.
+    fn ops_right(&self) -> bool
+        requires { OneEach (listed self.now) }
+        ensures { result ≡ ops_test (listed self.now) }
+    {
+        self.maxes
+            .iter()
+            .zip(self.ops)
+            .all(|(max, ops)| *max <= u32::MAX as u64 && ops <= max)
+    }
+
+    // How many dependencies the changes have, where none has more than 32 and there are values for all of them.
+    fn edges(&self) -> Option<usize>
+        requires { OneEach (listed self.now) }
+        ensures { result ≡ (if enough_test (listed self.now) then Some (total self.now.deps.now (length self.now.ids.now / 32)) else None) }
+    {
+        let mut at: usize = 0;
+        for d in self.deps {
+            if 32 < *d {
+                return None;
+            }
+            if self.values.len() - at < *d as usize {
+                return None;
+            }
+            at += *d as usize;
         }
-        i += 1;
+        Some(at)
     }
-    false
-}
 
-// Whether the hash is that of node k, and no change depends on it.
-fn head_is(hashes: &[u8], values: &[u64], hash: &[u8], k: usize) -> bool
-    requires { (32 * k + 32 ≤ length hashes.now) × (length hash.now ≡ 32) }
-    ensures { result ≡ column_head_is hashes.now values.now hash.now k }
-{
-    if !hash::same_at(hashes, k, hash) {
-        return false;
-    }
-    !wanted(values, k)
-}
-
-// Whether the hash is that of a head among the first n nodes.
-fn is_head(hashes: &[u8], n: usize, values: &[u64], hash: &[u8]) -> bool
-    requires { (32 * n ≤ length hashes.now) × (length hash.now ≡ 32) }
-    ensures { result ≡ some_below (column_head_is hashes.now values.now hash.now) n }
-{
-    let mut k = 0;
-    while k < n {
-        if head_is(hashes, values, hash, k) {
-            return true;
+    // Whether each of the dependencies is below node k, and has no larger max op.
+    fn node_right(&self, k: usize, deps: &[u64]) -> bool
+        requires { k < length self.now.maxes.now }
+        ensures { result ≡ all_in (dep_right self.now.maxes.now k) deps.now }
+    {
+        for j in deps {
+            let j = *j as usize;
+            if k <= j {
+                return false;
+            }
+            if self.maxes[k] < self.maxes[j] {
+                return false;
+            }
         }
-        k += 1;
+        true
     }
-    false
-}
 
-// Whether every stated head is one.
-fn stated_right(hashes: &[u8], n: usize, values: &[u64], heads: &[u8]) -> bool
-    requires { 32 * n ≤ length hashes.now }
-    ensures { result ≡ all_below (stated_right hashes.now n values.now heads.now) (length heads.now / 32) }
-{
-    let m = heads.len() / 32;
-    let mut i = 0;
-    while i < m {
-        let p = 32 * i;
-        if !is_head(hashes, n, values, &heads[p..p + 32]) {
-            return false;
+    // The same of all changes.
+    fn deps_right(&self) -> bool
+        requires { OneEach (listed self.now) × HasValues (listed self.now) }
+        ensures { result ≡ deps_test (listed self.now) }
+    {
+        let mut at: usize = 0;
+        for k in 0..self.changes() {
+            let d = self.deps[k] as usize;
+            if !self.node_right(k, &self.values[at..at + d]) {
+                return false;
+            }
+            at += d;
         }
-        i += 1;
+        true
     }
-    true
-}
 
-// Whether node k is a dependency, or its hash is stated.
-fn head_told(hash: &[u8], values: &[u64], heads: &[u8], k: usize) -> bool
-    requires { length hash.now ≡ 32 }
-    ensures { result ≡ (mem k values.now || is_known heads.now (length heads.now / 32) hash.now) }
-{
-    if wanted(values, k) {
-        return true;
+    // How many of the first k changes are the actor's.
+    fn count_before(&self, k: usize, actor: u64) -> usize
+        requires { k ≤ length self.now.actors.now }
+        ensures { result ≡ tally (λ j. eqb (get_or self.now.actors.now j 0) actor) k }
+    {
+        self.actors[..k].iter().filter(|a| **a == actor).count()
     }
-    known(heads, heads.len() / 32, hash)
-}
 
-// Whether every head among the first n nodes is stated.
-fn heads_told(hashes: &[u8], n: usize, values: &[u64], heads: &[u8]) -> bool
-    requires { 32 * n ≤ length hashes.now }
-    ensures { result ≡ all_below (head_told hashes.now values.now heads.now) n }
-{
-    let mut k = 0;
-    while k < n {
+    // Whether each actor's sequences run 1, 2, 3.
+    fn sequences_run(&self) -> bool
+        requires { OneEach (listed self.now) }
+        ensures { result ≡ runs_test (listed self.now) }
+    {
+        for k in 0..self.changes() {
+            let c = self.count_before(k, self.actors[k]);
+            if self.seqs[k] != c as u64 + 1 {
+                return false;
+            }
+        }
+        true
+    }
+
+    // Whether no hash stands twice.
+    fn distinct(&self) -> bool
+        ensures { result ≡ new_test (listed self.now) }
+    {
+        for k in 0..self.changes() {
+            let p = 32 * k;
+            if known(self.ids, k, &self.ids[p..p + 32]) {
+                return false;
+            }
+        }
+        true
+    }
+
+    // Whether the hash is that of a node that no change depends on.
+    fn is_head(&self, hash: &[u8], used: &[u64]) -> bool
+        requires { length hash.now ≡ 32 }
+        ensures { result ≡ some_below (column_head_is self.now.ids.now used.now hash.now) (length self.now.ids.now / 32) }
+    {
+        for k in 0..self.changes() {
+            if hash::same_at(self.ids, k, hash) && !wanted(used, k) {
+                return true;
+            }
+        }
+        false
+    }
+
+    // Whether every stated head is one.
+    fn stated_right(&self, used: &[u64]) -> bool
+        ensures { result ≡ all_below (stated_right self.now.ids.now (length self.now.ids.now / 32) used.now self.now.heads.now) (length self.now.heads.now / 32) }
+    {
+        for i in 0..self.heads.len() / 32 {
+            let p = 32 * i;
+            if !self.is_head(&self.heads[p..p + 32], used) {
+                return false;
+            }
+        }
+        true
+    }
+
+    // Whether node k is a dependency, or its hash is stated.
+    fn head_told(&self, k: usize, used: &[u64]) -> bool
+        requires { 32 * k + 32 ≤ length self.now.ids.now }
+        ensures { result ≡ head_told self.now.ids.now used.now self.now.heads.now k }
+    {
         let p = 32 * k;
-        if !head_told(&hashes[p..p + 32], values, heads, k) {
-            return false;
+        wanted(used, k) || known(self.heads, self.heads.len() / 32, &self.ids[p..p + 32])
+    }
+
+    // Whether every head is stated.
+    fn heads_told(&self, used: &[u64]) -> bool
+        ensures { result ≡ all_below (head_told self.now.ids.now used.now self.now.heads.now) (length self.now.ids.now / 32) }
+    {
+        for k in 0..self.changes() {
+            if !self.head_told(k, used) {
+                return false;
+            }
         }
-        k += 1;
+        true
     }
-    true
-}
 
-// Whether the stated heads are those of the first n nodes, order and repeats ignored.
-fn heads_right(hashes: &[u8], n: usize, values: &[u64], heads: &[u8]) -> bool
-    requires { 32 * n ≤ length hashes.now }
-    ensures { result ≡ column_heads_right hashes.now n values.now heads.now }
-{
-    if !stated_right(hashes, n, values, heads) {
-        return false;
+    // Whether the stated heads are those of the changes, order and repeats ignored.
+    fn heads_right(&self, used: &[u64]) -> bool
+        ensures { result ≡ column_heads_right self.now.ids.now (length self.now.ids.now / 32) used.now self.now.heads.now }
+    {
+        self.stated_right(used) && self.heads_told(used)
     }
-    heads_told(hashes, n, values, heads)
-}
 
-// Whether the five lengths are n.
-fn lengths_equal(
-    n: usize,
-    actors: usize,
-    seqs: usize,
-    maxes: usize,
-    ops: usize,
-    deps: usize,
-) -> bool
-    ensures { result ≡ lengths_are n actors seqs maxes ops deps }
-{
-    if actors != n {
-        return false;
+    // Where the columns agree, how many dependencies the changes have.
+    fn agree(&self) -> Option<usize>
+        ensures { result ≡ (if agree (listed self.now) then Some (total self.now.deps.now (length self.now.ids.now / 32)) else None) }
+    {
+        if !self.lengths_equal() {
+            return None;
+        }
+        if !self.actors_low() || !self.ops_right() {
+            return None;
+        }
+        let e = self.edges()?;
+        if self.deps_right()
+            && self.sequences_run()
+            && self.distinct()
+            && self.heads_right(&self.values[..e])
+        {
+            Some(e)
+        } else {
+            None
+        }
     }
-    if seqs != n {
-        return false;
-    }
-    if maxes != n {
-        return false;
-    }
-    if ops != n {
-        return false;
-    }
-    deps == n
-}
 
-// Whether the columns agree.
-fn agree(
-    hashes: &[u8],
-    actors: &[u64],
-    seqs: &[u64],
-    maxes: &[u64],
-    ops: &[u64],
-    deps: &[u64],
-    values: &[u64],
-    heads: &[u8],
-    count: u64,
-) -> bool
-    ensures { result ≡ agree (columns hashes.now actors.now seqs.now maxes.now ops.now deps.now values.now heads.now count) }
-{
-    let n = hashes.len() / 32;
-    if !lengths_equal(
-        n,
-        actors.len(),
-        seqs.len(),
-        maxes.len(),
-        ops.len(),
-        deps.len(),
-    ) {
-        return false;
+    // What loading the columns comes to, where there is room for so many changes, edges and actors.
+    pub fn judge(&self, nodes: usize, edges: usize, rows: usize) -> Result<(), LoadRefusal>
+        ensures { loading_outcome result ≡ judged_load nodes edges rows (listed self.now) }
+    {
+        if self.ids.len() % 32 != 0 || self.heads.len() % 32 != 0 {
+            return Err(LoadRefusal::Malformed);
+        }
+        if (rows as u64) < self.count {
+            return Err(LoadRefusal::NoActorRoom);
+        }
+        let e = self.agree().ok_or(LoadRefusal::Disagree)?;
+        if nodes < self.changes() {
+            return Err(LoadRefusal::NoNodeRoom);
+        }
+        if edges < e {
+            return Err(LoadRefusal::NoEdgeRoom);
+        }
+        Ok(())
     }
-    if !actors_low(actors, n, count) {
-        return false;
-    }
-    if !ops_right(maxes, ops, n) {
-        return false;
-    }
-    if !deps_enough(deps, n, values.len()) {
-        return false;
-    }
-    if !deps_right(deps, values, maxes, n) {
-        return false;
-    }
-    if !sequences_run(actors, seqs, n) {
-        return false;
-    }
-    if !distinct(hashes, n) {
-        return false;
-    }
-    let e = dep_count(deps, n, values.len());
-    heads_right(hashes, n, &values[0..e], heads)
-}
-
-// What loading the columns comes to, where there is room for so many changes, edges and actors.
-pub fn judge(
-    hashes: &[u8],
-    actors: &[u64],
-    seqs: &[u64],
-    maxes: &[u64],
-    ops: &[u64],
-    deps: &[u64],
-    values: &[u64],
-    heads: &[u8],
-    count: u64,
-    nodes: usize,
-    edges: usize,
-    rows: usize,
-) -> Loading
-    ensures { loading_outcome result ≡ judged_load nodes edges rows (columns hashes.now actors.now seqs.now maxes.now ops.now deps.now values.now heads.now count) }
-{
-    if hashes.len() % 32 != 0 {
-        return Loading::Malformed;
-    }
-    if heads.len() % 32 != 0 {
-        return Loading::Malformed;
-    }
-    if (rows as u64) < count {
-        return Loading::NoActorRoom;
-    }
-    if !agree(hashes, actors, seqs, maxes, ops, deps, values, heads, count) {
-        return Loading::Disagree;
-    }
-    let n = hashes.len() / 32;
-    if nodes < n {
-        return Loading::NoNodeRoom;
-    }
-    let e = dep_count(deps, n, values.len());
-    if edges < e {
-        return Loading::NoEdgeRoom;
-    }
-    Loading::Done
 }

@@ -2,7 +2,7 @@
 -- Assumes nothing.
 use Rattle.std.proofs.Math.Path.{◌≡◌, refl, sym, ap, subst}
 use Rattle.std.proofs.Common.{◌∙◌, arith}
-use Rattle.std.specs.Prelude.{◌⊎◌, Bool, ◌||◌, ℕ, suc, ◌<◌, eqb, get_or}
+use Rattle.std.specs.Prelude.{◌⊎◌, Bool, ◌||◌, ℕ, suc, ◌<◌, eqb, get_or, None, Ok}
 use Rattle.std.proofs.Math.Logic.{inl, inr, ⊎_elim}
 use Rattle.std.proofs.Math.Bool.{true, false, cond}
 use mathlib.Core.List.{List, [], ◌∷◌}
@@ -13,11 +13,9 @@ use Rattle.paper.proofs.Bools.{below_suc, mem_single, mem_place}
 use Rattle.paper.proofs.Extend.{valid_add, wanted_add, new_unwanted, clock_extend}
 use Rattle.paper.specs.Lists.{hash_at}
 use Rattle.hash.specs.HashLaws.{FoundIs, find_is}
-use Rattle.hash.specs.declared.Found.TheVariants.{Unknown as Nowhere}
 use Rattle.tables.specs.Tables.{Tables, changes, actors, actor_room, actor_at, seq_at, head_at, entry_at, graph}
 use Rattle.tables.specs.Valid.{Counts, HashesDistinct, NumbersAt, Numbers, Running, Heads, Rows, Valid, count_of}
 use Rattle.tables.specs.DepsLaws.{valid_graph}
-use Rattle.judge.specs.declared.Judged.TheVariants.{Done}
 use Rattle.paper.specs.Adding.{Change}
 use Rattle.judge.specs.Judge.{deps_given, tables_judged}
 use Rattle.judge.specs.JudgeLaws.{Accepted}
@@ -104,7 +102,7 @@ module _ (t : Tables) (x : Change) (v : Valid t) (a : Accepted t x) where
       each (λ (j : ℕ). (i : ℕ) → i < j → hash_at (stored t x).hashes i ≡ hash_at (stored t x).hashes j → ⊥)
       (λ j l i h q. v.sound.distinct j l i h (sym (old_hash t x v a i (omega arith)) ∙ q ∙ old_hash t x v a j l))
       (λ i h q.
-      let f : FoundIs t.hashes (changes t) x.hash Nowhere = subst (FoundIs t.hashes (changes t) x.hash) a.fresh (find_is t.hashes (changes t) x.hash) in
+      let f : FoundIs t.hashes (changes t) x.hash None = subst (FoundIs t.hashes (changes t) x.hash) a.fresh (find_is t.hashes (changes t) x.hash) in
       f i h (sym (old_hash t x v a i h) ∙ q ∙ new_hash t x v a))
 
   numbers : Numbers (stored t x).nodes (changes (stored t x)) (actors (stored t x))
@@ -174,8 +172,8 @@ module _ (t : Tables) (x : Change) (v : Valid t) (a : Accepted t x) where
 
 -- ---- the promise of `place`, in the paper's words
 
-pub stored_valid : (t : Tables) (x : Change) → Valid t → tables_judged t x ≡ Done → Valid (stored t x)
+pub stored_valid : (t : Tables) (x : Change) → Valid t → tables_judged t x ≡ Ok tt → Valid (stored t x)
 stored_valid t x v d = stays_valid t x v (accepted t x d)
 
-pub stored_grows : (t : Tables) (x : Change) → Valid t → tables_judged t x ≡ Done → Grows (graph t) x (deps_of t x) (graph (stored t x))
+pub stored_grows : (t : Tables) (x : Change) → Valid t → tables_judged t x ≡ Ok tt → Grows (graph t) x (deps_of t x) (graph (stored t x))
 stored_grows t x v d = grows t x v (accepted t x d)

@@ -1,6 +1,6 @@
 -- Adding to the tables is the paper's adding to the graph that they hold.
 -- Assumes nothing.
-use Rattle.std.specs.Prelude.{◌≡◌, refl, List, ◌∷◌, map, ℕ, zero, suc, ◌+◌, ◌/◌, ◌<◌}
+use Rattle.std.specs.Prelude.{◌≡◌, refl, List, ◌∷◌, map, ℕ, zero, suc, ◌+◌, ◌/◌, ◌<◌, Some, None, Option, Ok}
 use Rattle.std.proofs.Common.{sym, ap₂, subst, ◌∙◌, arith}
 use Rattle.std.proofs.Math.Path.{ap}
 use Rattle.std.proofs.Math.Decide.{ℕ_discrete}
@@ -11,12 +11,9 @@ use Rattle.paper.specs.Adding.{Change, accepts, put, grown, added as paper-added
 use Rattle.paper.proofs.Bools.{below_suc}
 use Rattle.paper.proofs.Same.{SameGraph, SameHub, same_hub}
 use Rattle.hash.specs.Hash.{find_hash}
-use Rattle.hash.specs.declared.Found.{Found}
-use Rattle.hash.specs.declared.Found.TheVariants.{At, Unknown as Nowhere}
 use Rattle.tables.specs.Tables.{Tables, changes, graph}
 use Rattle.tables.specs.Valid.{Valid}
 use Rattle.tables.specs.NodeLaws.{node_at}
-use Rattle.judge.specs.declared.Judged.TheVariants.{Done}
 use Rattle.judge.specs.Judge.{deps_given, tables_judged, judged_number}
 use Rattle.judge.specs.JudgeLaws.{Accepted, is_done}
 use Rattle.judge.proofs.Accepted.{accepted}
@@ -29,16 +26,16 @@ use Rattle.graph.specs.Growth.{Grows, stored_grows}
 
 -- ---- the dependencies' nodes
 
-nodes_from_lem : (t : Tables) (ds : List ℕ) (left i : ℕ) → ((j : ℕ) → j < i + left → find_hash t.hashes (changes t) (hash_at ds j) ≡ Nowhere → ⊥)
+nodes_from_lem : (t : Tables) (ds : List ℕ) (left i : ℕ) → ((j : ℕ) → j < i + left → find_hash t.hashes (changes t) (hash_at ds j) ≡ None → ⊥)
     → nodes_from t.hashes (changes t) ds left i ≡ map (node (graph t)) (hashes_from ds left i)
 unfolding nodes_from hashes_from
 nodes_from_lem t ds zero i h = refl
 nodes_from_lem t ds (suc left) i h =
     ap₂ (λ (k : ℕ) (ks : List ℕ). k ∷ ks) (one (find_hash t.hashes (changes t) (hash_at ds i)) refl) (nodes_from_lem t ds left (suc i) (λ j l. h j (omega arith)))
   where
-    one : (f : Found) → find_hash t.hashes (changes t) (hash_at ds i) ≡ f → node_of (find_hash t.hashes (changes t) (hash_at ds i)) ≡ node (graph t) (hash_at ds i)
-    one (At k) e = ap node_of e ∙ sym (node_at t (hash_at ds i) k e)
-    one Nowhere e = absurd (h i (omega arith) e)
+    one : (f : Option ℕ) → find_hash t.hashes (changes t) (hash_at ds i) ≡ f → node_of (find_hash t.hashes (changes t) (hash_at ds i)) ≡ node (graph t) (hash_at ds i)
+    one (Some k) e = ap node_of e ∙ sym (node_at t (hash_at ds i) k e)
+    one None e = absurd (h i (omega arith) e)
 
 deps_nodes : (t : Tables) (x : Change) → Accepted t x → deps_of t x ≡ nodes (graph t) (hashes_of x.deps)
 unfolding nodes hashes_of
@@ -71,7 +68,7 @@ module _ (g g' : Graph) (x : Change) (w : Grows g x (nodes g (hashes_of x.deps))
 
 module _ (t : Tables) (x : Change) (v : Valid t) where
   -- the graph after placing
-  pub placed_grown : tables_judged t x ≡ Done → SameGraph (grown (graph t) x) (graph (placed t x))
+  pub placed_grown : tables_judged t x ≡ Ok tt → SameGraph (grown (graph t) x) (graph (placed t x))
   placed_grown d =
       grows_grown (graph t) (graph (placed t x)) x
       (subst (λ (ds : List ℕ). Grows (graph t) x ds (graph (placed t x))) (deps_nodes t x (accepted t x d)) (stored_grows t x v d))

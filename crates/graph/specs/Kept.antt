@@ -1,6 +1,6 @@
 -- What an accepted change leaves as it was, and what it brings: histories and clocks of the older nodes, its own clock, the heads.
 -- Assumes nothing.
-use Rattle.std.specs.Prelude.{◌≡◌, Bool, true, ◌||◌, ℕ, ◌<◌, max}
+use Rattle.std.specs.Prelude.{◌≡◌, Bool, true, ◌||◌, ℕ, ◌<◌, max, Ok}
 use Rattle.std.proofs.Common.{◌∙◌}
 use Rattle.std.proofs.Math.Path.{ap}
 use Rattle.std.proofs.Math.Bool.{not, cond}
@@ -14,7 +14,6 @@ use Rattle.paper.proofs.Extend.{hist_extend, clock_extend, clock_new, wanted_add
 use Rattle.paper.proofs.Same.{SameHub, hub_trans, added_same}
 use Rattle.tables.specs.Tables.{Tables, changes, graph}
 use Rattle.tables.specs.Valid.{Valid}
-use Rattle.judge.specs.declared.Judged.TheVariants.{Done}
 use Rattle.judge.specs.Judge.{tables_judged}
 use Rattle.judge.specs.JudgeLaws.{Accepted}
 use Rattle.judge.proofs.Accepted.{accepted}
@@ -25,7 +24,7 @@ use Rattle.graph.specs.Growth.{extended, low, next, old_valid, new_valid}
 use Rattle.graph.specs.HubGrown.{added_hub}
 use Rattle.graph.specs.Life.{added_valid}
 
-module _ (t : Tables) (x : Change) (v : Valid t) (d : tables_judged t x ≡ Done) where
+module _ (t : Tables) (x : Change) (v : Valid t) (d : tables_judged t x ≡ Ok tt) where
   a : Accepted t x
   a = accepted t x d
 

@@ -1,23 +1,21 @@
 -- The tables after a change is placed.
 -- Assumes nothing.
-use Rattle.std.specs.Prelude.{cond, List, [], ◌∷◌, ℕ, zero, suc, ◌+◌, ◌*◌, ◌/◌, eqb, length, set, replicate}
+use Rattle.std.specs.Prelude.{cond, List, [], ◌∷◌, ℕ, zero, suc, ◌+◌, ◌*◌, ◌/◌, eqb, length, set, replicate, Some, None, Option, Ok, Err}
 use Rattle.std.proofs.Math.Seq.{paste}
 use Rattle.paper.specs.Lists.{hash_at}
 use Rattle.paper.specs.Caching.{cache_due}
 use Rattle.hash.specs.Hash.{find_hash}
-use Rattle.hash.specs.declared.Found.{Found}
-use Rattle.hash.specs.declared.Found.TheVariants.{At, Unknown as Nowhere}
 use Rattle.tables.specs.Tables.{Tables, changes, edges, actor_room}
 use Rattle.cache.specs.Cache.{after_caching, with_clocks}
-use Rattle.judge.specs.declared.Judged.{Judged}
-use Rattle.judge.specs.declared.Judged.TheVariants.{Done, Malformed, Known, Unknown, NoActor, WrongSequence, BadOps, TooManyDeps, NoNodeRoom, NoEdgeRoom}
+use Rattle.judge.specs.Judged.{Judged}
+use Rattle.judge.specs.declared.AddRefusal.TheVariants.{Malformed, Known, Unknown, NoActor, WrongSequence, BadOps, TooManyDeps, NoNodeRoom, NoEdgeRoom}
 use Rattle.paper.specs.Adding.{Change}
 use Rattle.judge.specs.Judge.{deps_given, tables_judged}
 
 -- the node that was found
-abbrev pub node_of : Found → ℕ
-node_of (At k) = k
-node_of Nowhere = 0
+abbrev pub node_of : Option ℕ → ℕ
+node_of (Some k) = k
+node_of None = 0
 
 -- the nodes of the `left` hashes of ds from i on
 unfoldable pub nodes_from : List ℕ → ℕ → List ℕ → ℕ → ℕ → List ℕ
@@ -70,18 +68,18 @@ due_clocks t k = cond (cache_due k) (after_caching t k) t.clocks
 abbrev pub placed : Tables → Change → Tables
 placed t x = with_clocks (stored t x) (due_clocks (stored t x) (changes t))
 
--- the new tables where the answer is Done, and else the old ones
+-- the new tables where the answer is Ok, and else the old ones
 abbrev pub if_added : Judged → Tables → Tables → Tables
-if_added Done new old = new
-if_added Malformed new old = old
-if_added Known new old = old
-if_added (Unknown i) new old = old
-if_added NoActor new old = old
-if_added WrongSequence new old = old
-if_added BadOps new old = old
-if_added TooManyDeps new old = old
-if_added NoNodeRoom new old = old
-if_added NoEdgeRoom new old = old
+if_added (Ok u) new old = new
+if_added (Err Malformed) new old = old
+if_added (Err Known) new old = old
+if_added (Err (Unknown i)) new old = old
+if_added (Err NoActor) new old = old
+if_added (Err WrongSequence) new old = old
+if_added (Err BadOps) new old = old
+if_added (Err TooManyDeps) new old = old
+if_added (Err NoNodeRoom) new old = old
+if_added (Err NoEdgeRoom) new old = old
 
 -- the tables after the change was judged and, if accepted, placed
 abbrev pub added_tables : Tables → Change → Tables

@@ -1,6 +1,6 @@
 -- The steps of placing: what the new edges are, and how head flags are taken away.
 -- Assumes nothing.
-use Rattle.std.specs.Prelude.{◌≡◌, refl, cond, List, [], ◌∷◌, ℕ, zero, suc, ◌+◌, ◌*◌, ◌-◌, ◌/◌, ◌%◌, ◌≤◌, ◌<◌, eqb, length, get_or, set}
+use Rattle.std.specs.Prelude.{◌≡◌, refl, cond, List, [], ◌∷◌, ℕ, zero, suc, ◌+◌, ◌*◌, ◌-◌, ◌/◌, ◌%◌, ◌≤◌, ◌<◌, eqb, length, get_or, set, Some, None, Option, Ok, Err}
 use Rattle.std.proofs.Common.{sym, ap, subst, ◌∙◌, add-one, arith, length-set, get_or-set_same, get_or-set_other, eqb-true, eq-eqb, ne_eqb, mul-le-mul, mul-le-mul_right, suc-mul}
 use Rattle.std.proofs.Math.Seq.{slice, slice_empty, slice-cons}
 use Rattle.std.proofs.lemmas.Bool.{eqb-false}
@@ -10,9 +10,6 @@ use Rattle.paper.specs.Lists.{hash_at}
 use Rattle.hash.specs.Hash.{find_hash, first_unknown}
 use Rattle.hash.specs.HashLaws.{FoundIs, find_is}
 use Rattle.hash.specs.Unknown.{Known, MissingIs, unknown_is}
-use Rattle.hash.specs.declared.Found.{Found}
-use Rattle.hash.specs.declared.Found.TheVariants.{At, Unknown as Nowhere}
-use Rattle.hash.specs.declared.Missing.TheVariants.{Nothing}
 use Rattle.list_laws.specs.Paste.{paste_long, paste_in, paste_part}
 use Rattle.tables.specs.Tables.{Tables, tables, changes, edges, change_room_of, actor_room, actor_at}
 use Rattle.tables.specs.Valid.{Valid}
@@ -23,21 +20,21 @@ use Rattle.judge.specs.JudgeLaws.{Accepted}
 use Rattle.paper.specs.Caching.{cache_due}
 use Rattle.cache.specs.Cache.{after_caching}
 use Rattle.graph.specs.Place.{node_of, nodes_from, nexts_from, unheaded, deps_of, stored, due_clocks, placed, if_added, added_tables}
-use Rattle.judge.specs.declared.Judged.{Judged}
-use Rattle.judge.specs.declared.Judged.TheVariants.{Done, Malformed, Known as AlreadyKnown, Unknown, NoActor, WrongSequence, BadOps, TooManyDeps, NoNodeRoom, NoEdgeRoom}
+use Rattle.judge.specs.Judged.{Judged}
+use Rattle.judge.specs.declared.AddRefusal.TheVariants.{Malformed, Known as AlreadyKnown, Unknown, NoActor, WrongSequence, BadOps, TooManyDeps, NoNodeRoom, NoEdgeRoom}
 
 -- ---- dependencies as nodes
 
-pub found_low : (hs : List ℕ) (n : ℕ) (h : List ℕ) (k : ℕ) → find_hash hs n h ≡ At k → k < n
+pub found_low : (hs : List ℕ) (n : ℕ) (h : List ℕ) (k : ℕ) → find_hash hs n h ≡ Some k → k < n
 unfolding FoundIs
-found_low hs n h k e = let p : FoundIs hs n h (At k) = subst (FoundIs hs n h) e (find_is hs n h) in p.0
+found_low hs n h k e = let p : FoundIs hs n h (Some k) = subst (FoundIs hs n h) e (find_is hs n h) in p.0
 
 -- where none is unknown each is found
-pub none_missing : (hs : List ℕ) (n : ℕ) (ds : List ℕ) → first_unknown hs n ds ≡ Nothing → (i : ℕ) → i < length ds / 32 → find_hash hs n (hash_at ds i) ≡ Nowhere → ⊥
+pub none_missing : (hs : List ℕ) (n : ℕ) (ds : List ℕ) → first_unknown hs n ds ≡ None → (i : ℕ) → i < length ds / 32 → find_hash hs n (hash_at ds i) ≡ None → ⊥
 unfolding FoundIs MissingIs Known
 none_missing hs n ds e i l q =
-    let k : MissingIs hs n ds (length ds / 32) Nothing = subst (MissingIs hs n ds (length ds / 32)) e (unknown_is hs n ds) in
-    let p : FoundIs hs n (hash_at ds i) Nowhere = subst (FoundIs hs n (hash_at ds i)) q (find_is hs n (hash_at ds i)) in
+    let k : MissingIs hs n ds (length ds / 32) None = subst (MissingIs hs n ds (length ds / 32)) e (unknown_is hs n ds) in
+    let p : FoundIs hs n (hash_at ds i) None = subst (FoundIs hs n (hash_at ds i)) q (find_is hs n (hash_at ds i)) in
     p (k i l).0 (k i l).1 (k i l).2
 
 pub nodes_long : (hs : List ℕ) (n : ℕ) (ds : List ℕ) (left i : ℕ) → length (nodes_from hs n ds left i) ≡ left
@@ -53,18 +50,18 @@ nodes_at hs n ds (suc left) i (suc j) l =
     let e : suc i + j ≡ i + suc j = omega arith in nodes_at hs n ds left (suc i) j (omega arith) ∙ ap (λ (k : ℕ). node_of (find_hash hs n (hash_at ds k))) e
 
 -- node j of the list, where its hash was found at k
-pub nodes_found : (hs : List ℕ) (n : ℕ) (ds : List ℕ) (j k : ℕ) → j < length ds / 32 → find_hash hs n (hash_at ds j) ≡ At k → k ≡ get_or (nodes_from hs n ds (length ds / 32) 0) j 0
+pub nodes_found : (hs : List ℕ) (n : ℕ) (ds : List ℕ) (j k : ℕ) → j < length ds / 32 → find_hash hs n (hash_at ds j) ≡ Some k → k ≡ get_or (nodes_from hs n ds (length ds / 32) 0) j 0
 nodes_found hs n ds j k l e =
     let z : 0 + j ≡ j = omega arith in
     sym (nodes_at hs n ds (length ds / 32) 0 j l ∙ ap (λ (i : ℕ). node_of (find_hash hs n (hash_at ds i))) z ∙ ap node_of e)
 
 -- each of them is below n, where none is unknown
-pub nodes_low : (hs : List ℕ) (n : ℕ) (ds : List ℕ) → first_unknown hs n ds ≡ Nothing → (j : ℕ) → j < length ds / 32 → get_or (nodes_from hs n ds (length ds / 32) 0) j 0 < n
+pub nodes_low : (hs : List ℕ) (n : ℕ) (ds : List ℕ) → first_unknown hs n ds ≡ None → (j : ℕ) → j < length ds / 32 → get_or (nodes_from hs n ds (length ds / 32) 0) j 0 < n
 nodes_low hs n ds e j l = go (find_hash hs n (hash_at ds j)) refl
   where
-    go : (f : Found) → find_hash hs n (hash_at ds j) ≡ f → get_or (nodes_from hs n ds (length ds / 32) 0) j 0 < n
-    go (At k) q = let b = found_low hs n (hash_at ds j) k q in rw (← nodes_found hs n ds j k l q) b
-    go Nowhere q = absurd (none_missing hs n ds e j l q)
+    go : (f : Option ℕ) → find_hash hs n (hash_at ds j) ≡ f → get_or (nodes_from hs n ds (length ds / 32) 0) j 0 < n
+    go (Some k) q = let b = found_low hs n (hash_at ds j) k q in rw (← nodes_found hs n ds j k l q) b
+    go None q = absurd (none_missing hs n ds e j l q)
 
 -- ---- nexts
 
@@ -180,20 +177,20 @@ module _ (t : Tables) (x : Change) (a : Accepted t x) (f : Fits t x) where
 -- ---- refused, and accepted
 
 pub refused : (j : Judged) (new old : Tables) → (judged_number j ≡ 0 → ⊥) → if_added j new old ≡ old
-refused Done new old n = absurd (n refl)
-refused Malformed new old n = refl
-refused AlreadyKnown new old n = refl
-refused (Unknown i) new old n = refl
-refused NoActor new old n = refl
-refused WrongSequence new old n = refl
-refused BadOps new old n = refl
-refused TooManyDeps new old n = refl
-refused NoNodeRoom new old n = refl
-refused NoEdgeRoom new old n = refl
+refused (Ok u) new old n = absurd (n refl)
+refused (Err Malformed) new old n = refl
+refused (Err AlreadyKnown) new old n = refl
+refused (Err (Unknown i)) new old n = refl
+refused (Err NoActor) new old n = refl
+refused (Err WrongSequence) new old n = refl
+refused (Err BadOps) new old n = refl
+refused (Err TooManyDeps) new old n = refl
+refused (Err NoNodeRoom) new old n = refl
+refused (Err NoEdgeRoom) new old n = refl
 
 module _ (t : Tables) (x : Change) where
   -- accepted: the placed tables
-  pub added_done : tables_judged t x ≡ Done → added_tables t x ≡ placed t x
+  pub added_done : tables_judged t x ≡ Ok tt → added_tables t x ≡ placed t x
   added_done d = ap (λ (j : Judged). if_added j (placed t x) t) d
 
   -- refused: nothing is changed

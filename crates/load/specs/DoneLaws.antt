@@ -1,16 +1,18 @@
 -- What an accepted load gives, and the tables opened for it.
 -- Assumes nothing.
-use Rattle.std.specs.Prelude.{◌≡◌, true, List, [], ℕ, ◌%◌, ◌≤◌, eqb, ltb, length, set}
 use Rattle.std.proofs.Math.Path.{refl}
-use Rattle.std.proofs.Common.{sym, ap, subst, arith, eq-eqb, ne_eqb, eqb-true, ltb-false}
-use Rattle.paper.specs.Numbers.{number}
+use Rattle.std.specs.Prelude.{◌≡◌, Err, true, List, ℕ, ◌%◌, ◌≤◌, eqb, ltb, length, set, []}
+use Rattle.std.proofs.Common.{sym, ap, ◌∙◌, subst, arith, eq-eqb, ne_eqb, eqb-true, ltb-false}
+use Rattle.paper.specs.Numbers.{Outcome, number, done}
 use Rattle.paper.specs.Loading.{Columns, listed_changes, deps_before, agree, judged_load, changes_of}
 use Rattle.paper.proofs.Bools.{by_bool}
 use Rattle.paper.proofs.Loading.{Agreed}
-use Rattle.tables.specs.Tables.{Tables, tables, actor_room}
+use Rattle.tables.specs.Tables.{Tables, tables, change_room_of, edge_room_of, actor_room}
 use Rattle.tables.specs.Valid.{Lengths, Valid}
 use Rattle.graph.specs.Place.{adds}
-use Rattle.columns.specs.Columns.{columns}
+use Rattle.columns.specs.declared.LoadRefusal.{LoadRefusal}
+use Rattle.columns.specs.declared.LoadRefusal.TheVariants.{Malformed, NoActorRoom, Disagree, NoNodeRoom, NoEdgeRoom}
+use Rattle.columns.specs.Columns.{loading_outcome, columns}
 use Rattle.actors.specs.Actors.{opened}
 use Rattle.actors.specs.ActorLaws.{three}
 use Rattle.actors.specs.Lives.{opened_valid}
@@ -68,6 +70,24 @@ module _ (t : Tables) (c : Columns) where
   unfolding loaded
   loaded_refused n = rw (ne_eqb (number (loading t c)) 0 n)
 
+  -- the judgement is over the tables' room
+  pub told : (w : ℕ) (o : Outcome) → w ≡ actor_room t → o ≡ judged_load (change_room_of t) (edge_room_of t) w c → o ≡ loading t c
+  told w o e q = q ∙ ap (λ (n : ℕ). judged_load (change_room_of t) (edge_room_of t) n c) e
+
+  pub no_error : done ≡ loading t c → number (loading t c) ≡ 0
+  no_error e = ap number (sym e)
+
+  -- an error leaves the tables
+  pub kept : (e : LoadRefusal) → loading_outcome (Err e) ≡ loading t c → t ≡ loaded t c
+  kept e q = sym (loaded_refused (λ z. refused e (ap number q ∙ z)))
+    where
+      refused : (d : LoadRefusal) → number (loading_outcome (Err d)) ≡ 0 → ⊥
+      refused Malformed z = omega arith
+      refused NoActorRoom z = omega arith
+      refused Disagree z = omega arith
+      refused NoNodeRoom z = omega arith
+      refused NoEdgeRoom z = omega arith
+
 -- ---- opening
 
 module _ (hs ns ts xs cs us : List ℕ) (a : ℕ) (l : Lengths (tables hs ns ts xs cs us)) where
@@ -78,22 +98,24 @@ module _ (hs ns ts xs cs us : List ℕ) (a : ℕ) (l : Lengths (tables hs ns ts 
   pub stored_valid : a ≤ actor_room (tables hs ns ts xs cs us) → Valid (tables hs ns ts xs cs (set (set (set us 0 0) 1 0) 2 a))
   stored_valid h = subst Valid (sym stored) (opened_valid (tables hs ns ts xs cs us) a l h)
 
--- ---- what filling needs, and that it does not look at heads and actors' number
+-- ---- what filling needs
+
+pub fillable : (c : Columns) → Agreed c → Fillable c
+unfolding deps_before
+fillable c g = record {
+  actors_long = g.actors_long;
+  seqs_long = g.seqs_long;
+  max_ops_long = g.max_ops_long;
+  op_counts_long = g.op_counts_long;
+  dep_counts_long = g.dep_counts_long;
+  few = g.few;
+  enough = g.enough;
+  down = g.down;
+}
+
+-- ---- laws that no proof needs any more
 
 module _ (hs ws ss ms os ds vs ts : List ℕ) (a : ℕ) where
-  pub fillable : Agreed (columns hs ws ss ms os ds vs ts a) → Fillable (columns hs ws ss ms os ds vs [] 0)
-  unfolding deps_before
-  fillable g = record {
-    actors_long = g.actors_long;
-    seqs_long = g.seqs_long;
-    max_ops_long = g.max_ops_long;
-    op_counts_long = g.op_counts_long;
-    dep_counts_long = g.dep_counts_long;
-    few = g.few;
-    enough = g.enough;
-    down = g.down;
-  }
-
   pub same_changes : changes_of (columns hs ws ss ms os ds vs [] 0) ≡ changes_of (columns hs ws ss ms os ds vs ts a)
   unfolding changes_of deps_before
   same_changes = refl

@@ -93,10 +93,8 @@ put_end {ids} {deps} {out₀} {i} p l =
     p.same ∙ ap₂ (λ (x : List ℕ) (n : ℕ). hashes_at ids x ++ drop (32 * n) out₀) (ap (λ (n : ℕ). take n deps) e ∙ take-length deps) e
 
 -- the part of the buffer that is lent then
-pub put_part : (ids deps rest : List ℕ) → Inside ids deps → take (32 * length deps - 0) (drop 0 (hashes_at ids deps ++ rest)) ≡ hashes_at ids deps
-put_part ids deps rest ins =
-    let e : 32 * length deps - 0 ≡ 32 * length deps = omega arith in
-    ap (λ (n : ℕ). take n (hashes_at ids deps ++ rest)) e ∙ take_at (hashes_at ids deps) rest (32 * length deps) (at_long ids deps ins.each)
+pub put_part : (ids deps rest : List ℕ) → Inside ids deps → take (32 * length deps) (hashes_at ids deps ++ rest) ≡ hashes_at ids deps
+put_part ids deps rest ins = take_at (hashes_at ids deps) rest (32 * length deps) (at_long ids deps ins.each)
 
 -- ---- tables that the first k changes are added to
 

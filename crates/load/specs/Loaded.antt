@@ -1,6 +1,6 @@
 -- The theorem of loading: where the columns are accepted, the tables then hold exactly what they list.
 -- Assumes nothing.
-use Rattle.std.specs.Prelude.{◌≡◌, refl, true}
+use Rattle.std.specs.Prelude.{◌≡◌, refl, true, Ok}
 use Rattle.std.proofs.Common.{sym, ap, ◌∙◌, arith}
 use Rattle.std.proofs.Math.Path.{subst}
 use Prim.Native.Nat.{ℕ, zero, suc, ◌≤◌, ◌<◌}
@@ -14,7 +14,6 @@ use Rattle.paper.proofs.Same.{SameGraph, SameHub, heads_same}
 use Rattle.paper.proofs.Loading.{Agreed, agreed}
 use Rattle.tables.specs.Tables.{Tables, changes, actors, change_room_of, edge_room_of, actor_room, graph}
 use Rattle.tables.specs.Valid.{Lengths, Valid}
-use Rattle.judge.specs.declared.Judged.TheVariants.{Done}
 use Rattle.judge.specs.Judge.{tables_judged}
 use Rattle.judge.specs.JudgeLaws.{is_done}
 use Rattle.judge.specs.Hub.{hub}
@@ -41,7 +40,7 @@ pub record Upto (c : Columns) (t s : Tables) (k : ℕ) : Type 0 where
 -- an accepted load, s the tables afterwards
 pub record Loads (t : Tables) (c : Columns) (s : Tables) : Type 0 where
   -- each change is accepted in its turn
-  pub each_done : (k : ℕ) → k < listed_changes c → tables_judged (adds (opened t c.actor_count) (each_below (change_of_columns c) k)) (change_of_columns c k) ≡ Done
+  pub each_done : (k : ℕ) → k < listed_changes c → tables_judged (adds (opened t c.actor_count) (each_below (change_of_columns c) k)) (change_of_columns c k) ≡ Ok tt
   -- the graph has exactly the columns' changes, in order
   pub listed_graph : SameGraph (column_graph c) (graph s)
   -- its heads are the stated ones
@@ -99,10 +98,10 @@ module _ (t : Tables) (c : Columns) (l : Lengths t) (w : Taken (change_room_of t
         let j = w.edges_fit in
         accepted c agreeing (hub s) u.extends low u.counted (omega arith) (omega arith)
 
-    done_at : tables_judged s (change_of_columns c (changes s)) ≡ Done
+    done_at : tables_judged s (change_of_columns c (changes s)) ≡ Ok tt
     done_at = is_done (tables_judged s (change_of_columns c (changes s))) (ap (λ (v : Verdict). number (outcome v)) (judged_agrees s (change_of_columns c (changes s)) u.valid.sound ∙ paper_done))
 
-    pub done_now : tables_judged s (change_of_columns c k) ≡ Done
+    pub done_now : tables_judged s (change_of_columns c k) ≡ Ok tt
     done_now = ap (λ (i : ℕ). tables_judged s (change_of_columns c i)) (sym u.size) ∙ done_at
 
     grown_hub : SameHub (record { graph = grown (graph s) (change_of_columns c (changes s)); actors = actors s; change_room = change_room_of s; edge_room = edge_room_of s }) (hub (added_tables s (change_of_columns c (changes s))))
