@@ -1,6 +1,6 @@
 -- The marks of a history keep what the paper keeps, and each answer from its condition.
 -- Assumes nothing.
-use Rattle.std.specs.Prelude.{◌≡◌, Bool, ◌&&◌, ℕ, zero, suc, ◌*◌, ◌-◌, ◌/◌, ◌%◌, ◌≤◌, ◌<◌, eqb, length, get_or, take, replicate}
+use Rattle.std.specs.Prelude.{◌≡◌, Bool, ◌&&◌, ℕ, zero, suc, ◌*◌, ◌-◌, ◌/◌, ◌%◌, ◌≤◌, ◌<◌, eqb, length, get_or, take, replicate, Some, None, Option}
 use Rattle.std.proofs.Math.Path.{refl, ap}
 use Rattle.std.proofs.Common.{sym, ◌∙◌, subst, arith}
 use Rattle.std.proofs.Math.Bool.{true, false, not, cond}
@@ -16,8 +16,6 @@ use Rattle.paper.proofs.History.{hist_known}
 use Rattle.paper.proofs.Each.{get_d_each, each_ext}
 use Rattle.hash.specs.Hash.{find_hash}
 use Rattle.hash.specs.HashLaws.{FoundIs, find_is}
-use Rattle.hash.specs.declared.Found.{Found}
-use Rattle.hash.specs.declared.Found.TheVariants.{At, Unknown}
 use Rattle.tables.specs.Tables.{Tables, changes, graph}
 use Rattle.tables.specs.Valid.{Valid}
 use Rattle.tables.specs.NodeLaws.{node_at, node_low, node_none}
@@ -26,11 +24,13 @@ use Rattle.walk.specs.Marks.{marked, marks_of}
 use Rattle.answer_buffer.specs.Answers.{list_answer, filled}
 use Rattle.answer_buffer.specs.AnswerLaws.{Holds}
 use Rattle.answer_buffer.specs.Entering.{Entering}
-use Rattle.answer_buffer.specs.declared.Listed.TheVariants.{Done, Malformed}
-use Rattle.current_heads.specs.CurrentLaws.{found, find_names}
+use Rattle.current_heads.specs.CurrentLaws.{found, found_is, find_names}
 use Rattle.list_clock.specs.KnownLaws.{hist_knowns, starts_are}
 use Rattle.ancestors.specs.Ancestors.{outside_bytes, removed_told, removed_filled, unmarked, hash_stays, first_kept, kept_bytes}
 use Rattle.ancestors.specs.KeptLaws.{keep_ext, kept_to, kept_told, kept_whole, bytes_long}
+use Rattle.answer_buffer.specs.declared.Refusal.TheVariants.{Malformed}
+use Rattle.std.specs.Prelude.{Ok, Err}
+use Rattle.std.specs.Option.{is_some}
 
 module _ (t : Tables) (v : Valid t) where
   -- ---- the marks of a walk from the known ones of a list are those of the list's history
@@ -60,11 +60,11 @@ module _ (t : Tables) (v : Valid t) where
     kept_outside : (h : List ℕ) → hash_stays t.hashes (changes t) (marks_of (hist (graph t) s) r) h ≡ not (hist (graph t) s (node (graph t) h))
     kept_outside h = go (find_hash t.hashes (changes t) h) refl
       where
-        go : (f : Found) → find_hash t.hashes (changes t) h ≡ f → hash_stays t.hashes (changes t) (marks_of (hist (graph t) s) r) h ≡ not (hist (graph t) s (node (graph t) h))
-        go (At k) e =
+        go : (f : Option ℕ) → find_hash t.hashes (changes t) h ≡ f → hash_stays t.hashes (changes t) (marks_of (hist (graph t) s) r) h ≡ not (hist (graph t) s (node (graph t) h))
+        go (Some k) e =
             ap (unmarked (marks_of (hist (graph t) s) r)) e
             ∙ ap not (mark_says k (let l = node_low t h k e in omega arith) ∙ ap (hist (graph t) s) (sym (node_at t h k e)))
-        go Unknown e =
+        go None e =
             ap (unmarked (marks_of (hist (graph t) s) r)) e
             ∙ ap not (sym (ap (hist (graph t) s) (node_none t h e) ∙ unknown_out))
 
@@ -85,7 +85,7 @@ module _ (t : Tables) (v : Valid t) where
 
 module _ (g : Graph) (list of : List ℕ) where
   module _ (n : length list % 32 ≡ 0 → ⊥) where
-    pub list_bad : (room : ℕ) → removed_told g list of room ≡ Malformed
+    pub list_bad : (room : ℕ) → removed_told g list of room ≡ Err Malformed
     unfolding removed_told
     list_bad room = rw (ne_eqb (length list % 32) 0 n)
 
@@ -95,7 +95,7 @@ module _ (g : Graph) (list of : List ℕ) where
 
   module _ (e : length list % 32 ≡ 0) where
     module _ (n : length of % 32 ≡ 0 → ⊥) where
-      pub heads_bad : (room : ℕ) → removed_told g list of room ≡ Malformed
+      pub heads_bad : (room : ℕ) → removed_told g list of room ≡ Err Malformed
       unfolding removed_told
       heads_bad room = rw (eq-eqb (length list % 32) 0 e, ne_eqb (length of % 32) 0 n)
 
@@ -114,19 +114,19 @@ module _ (g : Graph) (list of : List ℕ) where
 
 -- ---- what a search says of a listed hash
 
-pub found_in : (hs : List ℕ) (n : ℕ) (h : List ℕ) (k : ℕ) → find_hash hs n h ≡ At k → k < n
+pub found_in : (hs : List ℕ) (n : ℕ) (h : List ℕ) (k : ℕ) → find_hash hs n h ≡ Some k → k < n
 unfolding FoundIs
 found_in hs n h k e = (subst (FoundIs hs n h) e (find_is hs n h)).0
 
 module _ (hs : List ℕ) (n : ℕ) (m h : List ℕ) where
-  pub kept_found : (k : ℕ) → find_hash hs n h ≡ At k → eqb (get_or m k 0) 0 ≡ hash_stays hs n m h
+  pub kept_found : (k : ℕ) → find_hash hs n h ≡ Some k → eqb (get_or m k 0) 0 ≡ hash_stays hs n m h
   kept_found k e = none (get_or m k 0) ∙ sym (ap (unmarked m) e)
     where
       none : (x : ℕ) → eqb x 0 ≡ not (ltb 0 x)
       none zero = refl
       none (suc x) = rw (ne_eqb (suc x) 0 (λ e. absurd (omega arith)), lt-ltb 0 (suc x) (omega arith))
 
-  pub kept_unknown : find_hash hs n h ≡ Unknown → true ≡ hash_stays hs n m h
+  pub kept_unknown : find_hash hs n h ≡ None → true ≡ hash_stays hs n m h
   kept_unknown e = sym (ap (unmarked m) e)
 
 module _ (hs : List ℕ) (n : ℕ) (m list : List ℕ) (i : ℕ) where
@@ -135,12 +135,20 @@ module _ (hs : List ℕ) (n : ℕ) (m list : List ℕ) (i : ℕ) where
   earlier = find_names list (hash_at list i) i 0
 
   -- it stood before
-  pub first_seen : (k : ℕ) → find_hash list i (hash_at list i) ≡ At k → false ≡ first_kept hs n m list i
+  pub first_seen : (k : ℕ) → find_hash list i (hash_at list i) ≡ Some k → false ≡ first_kept hs n m list i
   first_seen k e = ap (λ (b : Bool). not b && hash_stays hs n m (hash_at list i)) (sym (ap found e) ∙ earlier)
 
   -- it is new
-  pub first_new : find_hash list i (hash_at list i) ≡ Unknown → hash_stays hs n m (hash_at list i) ≡ first_kept hs n m list i
+  pub first_new : find_hash list i (hash_at list i) ≡ None → hash_stays hs n m (hash_at list i) ≡ first_kept hs n m list i
   first_new e = ap (λ (b : Bool). not b && hash_stays hs n m (hash_at list i)) (sym (ap found e) ∙ earlier)
+
+  -- the same by whether the search found it
+  module _ (f : Option ℕ) (e : f ≡ find_hash list i (hash_at list i)) where
+    pub first_as_some : is_some f ≡ true → false ≡ first_kept hs n m list i
+    first_as_some t = ap (λ (b : Bool). not b && hash_stays hs n m (hash_at list i)) (sym t ∙ found_is f ∙ ap found e ∙ earlier)
+
+    pub first_as_none : is_some f ≡ false → hash_stays hs n m (hash_at list i) ≡ first_kept hs n m list i
+    first_as_none t = ap (λ (b : Bool). not b && hash_stays hs n m (hash_at list i)) (sym t ∙ found_is f ∙ ap found e ∙ earlier)
 
 -- ---- the kept hashes as bytes
 
@@ -155,7 +163,7 @@ module _ (hs : List ℕ) (n : ℕ) (m list : List ℕ) where
 
   -- all of them entered
   module _ {out₀ out : List ℕ} {c i : ℕ} (v : Entering (kept_to (hash_stays hs n m) list i) out₀ out c) (fits : 32 * tally (first_kept hs n m list) (length list / 32) ≤ length out₀) (e : i ≡ length list / 32) where
-    pub entered_told : Done (32 * c) ≡ list_answer (kept_bytes hs n m list) (length out₀)
+    pub entered_told : Ok (32 * c) ≡ list_answer (kept_bytes hs n m list) (length out₀)
     entered_told = kept_told (hash_stays hs n m) list (length list / 32) (omega arith) v fits e ∙ ap (λ (l : List ℕ). list_answer l (length out₀)) (sym bytes_are)
 
     pub entered_whole : out ≡ filled (kept_bytes hs n m list) out₀

@@ -17,8 +17,8 @@ use Rattle.hash.specs.HashLaws.{hash_length}
 use Rattle.answer_buffer.specs.Answers.{list_answer, filled}
 use Rattle.answer_buffer.specs.SlotLaws.{hashes_split}
 use Rattle.answer_buffer.specs.Entering.{Wide, wide_cons, wide_ascending, flat_long, Entering, entering_start, entering_room, entering_next, entering_told, entering_whole}
-use Rattle.answer_buffer.specs.declared.Listed.TheVariants.{Done}
 use Rattle.current_heads.specs.Ascents.{NamesSame, ascending_same}
+use Rattle.std.specs.Prelude.{Ok}
 
 -- ---- keeping
 
@@ -178,7 +178,7 @@ module _ (p : List ℕ → Bool) (bytes : List ℕ) (m : ℕ) (inside : 32 * m �
     all_fit : 32 * length (ascending (kept_to p bytes m)) ≤ length out₀
     all_fit = let a = kept_long p bytes m in omega arith
 
-    pub kept_told : Done (32 * c) ≡ list_answer (flat (ascending (kept_to p bytes m))) (length out₀)
+    pub kept_told : Ok (32 * c) ≡ list_answer (flat (ascending (kept_to p bytes m))) (length out₀)
     kept_told = entering_told last (kept_wide p bytes m inside) all_fit
 
     pub kept_whole : out ≡ filled (flat (ascending (kept_to p bytes m))) out₀

@@ -1,20 +1,20 @@
 -- Each answer from its condition, and a buffer that is filled piece by piece.
 -- Assumes nothing.
-use Rattle.std.specs.Prelude.{◌≡◌, refl, List, [], ◌∷◌, ◌++◌, ℕ, ◌+◌, ◌≤◌, ◌<◌, length, drop}
+use Rattle.std.specs.Prelude.{◌≡◌, refl, List, [], ◌∷◌, ◌++◌, ℕ, ◌+◌, ◌≤◌, ◌<◌, length, drop, Ok, Err}
 use Rattle.std.proofs.Common.{sym, ap, ◌∙◌, append_assoc, append-nil, arith, length-append, le-leb, lt-ltb, le-ltb}
 use Rattle.std.proofs.lemmas.Bool.{lt-leb}
 use Rattle.paper.specs.Graph.{Graph}
 use Rattle.paper.specs.Text.{flat}
 use Rattle.list_laws.specs.Over.{over, over_over, over_length, over_none}
 use Rattle.answer_buffer.specs.Answers.{list_answer, filled, node_hash, node_hash_filled}
-use Rattle.answer_buffer.specs.declared.Listed.{Listed}
-use Rattle.answer_buffer.specs.declared.Listed.TheVariants.{Done, Short}
+use Rattle.answer_buffer.specs.declared.Refusal.{Refusal}
+use Rattle.answer_buffer.specs.declared.Refusal.TheVariants.{Short}
 
-pub listed_done : (l : List ℕ) (room : ℕ) → length l ≤ room → list_answer l room ≡ Done (length l)
+pub listed_done : (l : List ℕ) (room : ℕ) → length l ≤ room → list_answer l room ≡ Ok (length l)
 unfolding list_answer
 listed_done l room h = rw (le-leb _ _ h)
 
-pub listed_short : (l : List ℕ) (room : ℕ) → room < length l → list_answer l room ≡ Short
+pub listed_short : (l : List ℕ) (room : ℕ) → room < length l → list_answer l room ≡ Err Short
 unfolding list_answer
 listed_short l room h = rw (lt-leb _ _ h)
 
@@ -28,11 +28,11 @@ filled_short l out h = rw (lt-leb _ _ h)
 
 -- a node's hash
 module _ (g : Graph) (k : ℕ) where
-  pub node_told : (refusal : Listed) (room : ℕ) → k < g.size → node_hash g k refusal room ≡ list_answer (g.hash k) room
+  pub node_told : (refusal : Refusal) (room : ℕ) → k < g.size → node_hash g k refusal room ≡ list_answer (g.hash k) room
   unfolding node_hash
   node_told refusal room l = rw (lt-ltb k g.size l)
 
-  pub node_refused : (refusal : Listed) (room : ℕ) → g.size ≤ k → node_hash g k refusal room ≡ refusal
+  pub node_refused : (refusal : Refusal) (room : ℕ) → g.size ≤ k → node_hash g k refusal room ≡ Err refusal
   unfolding node_hash
   node_refused refusal room l = rw (le-ltb k g.size l)
 
@@ -90,5 +90,5 @@ over_front l out = let e : 0 + length l ≡ length l = omega arith in rw e
 pub holds_whole : {l out₀ out : List ℕ} {c : ℕ} → Holds l out₀ out c → length l ≤ length out₀ → out ≡ filled l out₀
 holds_whole {l} {out₀} h fits = h.same ∙ over_front l out₀ ∙ sym (filled_done l out₀ fits)
 
-pub holds_told : {l out₀ out : List ℕ} {c : ℕ} → Holds l out₀ out c → length l ≤ length out₀ → Done c ≡ list_answer l (length out₀)
-holds_told {l} {out₀} h fits = ap Done h.long ∙ sym (listed_done l (length out₀) fits)
+pub holds_told : {l out₀ out : List ℕ} {c : ℕ} → Holds l out₀ out c → length l ≤ length out₀ → Ok c ≡ list_answer l (length out₀)
+holds_told {l} {out₀} h fits = ap Ok h.long ∙ sym (listed_done l (length out₀) fits)

@@ -1,6 +1,6 @@
 -- A buffer that hashes are entered into one by one: it holds the ascending list of those entered so far.
 -- Assumes nothing.
-use Rattle.std.specs.Prelude.{◌≡◌, refl, true, List, [], ◌∷◌, ◌++◌, ℕ, suc, ◌+◌, ◌*◌, ◌-◌, ◌≤◌, eqb, length, take, drop}
+use Rattle.std.specs.Prelude.{◌≡◌, refl, true, List, [], ◌∷◌, ◌++◌, ℕ, suc, ◌+◌, ◌*◌, ◌-◌, ◌≤◌, eqb, length, take, drop, Ok}
 use Rattle.std.proofs.Common.{sym, ap₂, ◌∙◌, append_assoc, arith, length-append, length-drop, take_at, drop_at, drop-drop, eqb-true, eq-eqb}
 use Rattle.std.proofs.Math.Path.{ap}
 use Rattle.paper.specs.Lists.{hash_at, hashes_from, enter, ascending, every}
@@ -10,7 +10,6 @@ use Rattle.paper.proofs.Hashes.{every_of, of_every}
 use Rattle.paper.proofs.Ascending.{ascending_names, ascending_grows}
 use Rattle.answer_buffer.specs.Answers.{list_answer, filled}
 use Rattle.answer_buffer.specs.AnswerLaws.{listed_done, filled_done}
-use Rattle.answer_buffer.specs.declared.Listed.TheVariants.{Done}
 
 -- all are 32 bytes
 abbrev pub Wide : List (List ℕ) → Type 0
@@ -94,8 +93,8 @@ module _ {l : List (List ℕ)} {out₀ out : List ℕ} {c : ℕ} (v : Entering l
     bytes : length (flat (ascending l)) ≡ 32 * length (ascending l)
     bytes = flat_long (ascending l) (wide_ascending l w)
 
-    pub entering_told : Done (32 * c) ≡ list_answer (flat (ascending l)) (length out₀)
-    entering_told = ap Done (let n = v.long in let b = bytes in omega arith) ∙ sym (listed_done (flat (ascending l)) (length out₀) (let b = bytes in omega arith))
+    pub entering_told : Ok (32 * c) ≡ list_answer (flat (ascending l)) (length out₀)
+    entering_told = ap Ok (let n = v.long in let b = bytes in omega arith) ∙ sym (listed_done (flat (ascending l)) (length out₀) (let b = bytes in omega arith))
 
     pub entering_whole : out ≡ filled (flat (ascending l)) out₀
     entering_whole = v.same ∙ ap (λ (k : ℕ). flat (ascending l) ++ drop k out₀) (sym bytes) ∙ sym (filled_done (flat (ascending l)) out₀ (let b = bytes in omega arith))

@@ -1,6 +1,7 @@
 -- Loops over the numbers below n that count those that pass a test, or list them: as numbers, or as the hashes f k.
 -- Assumes nothing.
 use Rattle.std.specs.Prelude.{◌≡◌, refl, Bool, true, false, cond, List, [], ◌∷◌, ◌++◌, map, ℕ, zero, suc, ◌+◌, ◌*◌, ◌-◌, ◌≤◌, ◌<◌, length, set}
+use Rattle.std.specs.Int.{from_bool}
 use Rattle.std.proofs.Common.{sym, ap, ◌∙◌, add-one, arith, length-append}
 use Rattle.paper.specs.Lists.{pick, tally}
 use Rattle.paper.specs.Text.{flat}
@@ -20,8 +21,17 @@ module _ (p : ℕ → Bool) (k c : ℕ) where
   unfolding tally
   tally_miss f e = rw (add-one k, f) (e ∙ omega arith)
 
+  -- a yes counts 1, a no 0
+  pub tally_by : (b : Bool) → b ≡ p k → c ≡ tally p k → c + from_bool b ≡ tally p (k + 1)
+  tally_by true t e = tally_hit (sym t) e
+  tally_by false f e = let n = tally_miss (sym f) e in omega arith
+
   pub tally_fits : c ≡ tally p k → c ≤ k
   tally_fits e = let m = tally_most p k in omega arith
+
+pub at_most_one : (b : Bool) → from_bool b ≤ 1
+at_most_one true = omega arith
+at_most_one false = omega arith
 
 -- ---- listing
 

@@ -1,13 +1,16 @@
 -- The steps of entering a hash into an ascending list.
 -- Assumes nothing.
 use Rattle.std.proofs.Math.Path.{◌≡◌, sym, ap, ap₂}
-use Rattle.std.specs.Prelude.{refl, Bool, true, false, ℕ, zero, suc, ◌+◌, ◌*◌, ◌-◌, ◌≤◌, ◌<◌, get_or, set}
+use Rattle.std.specs.Prelude.{refl, Bool, true, false, ℕ, zero, suc, ◌+◌, ◌*◌, ◌-◌, ◌≤◌, ◌<◌, get_or, set, Some, None}
+use Rattle.std.specs.Ordering.{nat_cmp, ordering_then}
+use Rattle.std.specs.Cmp.Lexicographic.{slice_cmp}
+use borrow.Author.Tests.{ltb-true, eqb-true}
 use Rattle.std.proofs.Common.{◌∙◌, add-one, length-append, length-take, length-drop, take-append-drop, take-suc, drop-cons, take-add, drop-drop, get_or-take, lt-ltb, le-ltb}
 use Rattle.std.proofs.Math.Bool.{cond}
 use mathlib.Core.List.{List, [], ◌∷◌, ◌++◌, append_assoc}
 use Rattle.std.proofs.Math.Nat.{sub-zero}
 use native.Mathlib.Omega.{arith}
-use Rattle.std.proofs.Math.Dec.{ltb}
+use Rattle.std.proofs.Math.Dec.{eqb, ltb}
 use Rattle.std.proofs.Math.ListN.{length, take, drop, get_or-append}
 use Rattle.std.proofs.lemmas.List.{set_at}
 use Rattle.std.proofs.Math.Seq.{take_at, drop_at, take-append-le, take-take, length-take-le, append_snoc}
@@ -19,8 +22,29 @@ use Rattle.list_laws.specs.Over.{over}
 use Rattle.paper.specs.Text.{flat}
 use Rattle.answer_buffer.specs.AnswerLaws.{flat_append}
 use Rattle.answer_buffer.specs.Slots.{order_of, slot, shifted}
-use Rattle.answer_buffer.specs.declared.Order.TheVariants.{Less, Same, Greater}
-use Rattle.answer_buffer.specs.declared.Slot.TheVariants.{Before, There}
+use Rattle.std.specs.declared.cmp.Ordering.{Ordering}
+use Rattle.std.specs.declared.cmp.Ordering.TheVariants.{Less, Equal, Greater}
+
+-- ---- the library's order of slices of bytes
+
+-- the first pair of bytes decides, or else the rest
+by_pair : (b c : Bool) → (b ≡ true → c ≡ true → ⊥) → (rest : Ordering) (s t : Bool) → rest ≡ cond s Equal (cond t Less Greater)
+    → ordering_then (cond b Less (cond c Equal Greater)) rest ≡ cond (cond c s false) Equal (cond (cond c t b) Less Greater)
+by_pair true true n rest s t e = absurd (n refl refl)
+by_pair true false n rest s t e = refl
+by_pair false true n rest s t e = e
+by_pair false false n rest s t e = refl
+
+pair_decides : (x y : ℕ) (rest : Ordering) (s t : Bool) → rest ≡ cond s Equal (cond t Less Greater)
+    → ordering_then (nat_cmp x y) rest ≡ cond (cond (eqb x y) s false) Equal (cond (cond (eqb x y) t (ltb x y)) Less Greater)
+pair_decides x y = by_pair (ltb x y) (eqb x y) (λ l e. omega (arith, ltb-true x y l, eqb-true x y e))
+
+pub order_is : (xs ys : List ℕ) → slice_cmp nat_cmp xs ys ≡ order_of xs ys
+unfolding order_of same_list less_list
+order_is [] [] = refl
+order_is [] (y ∷ ys) = refl
+order_is (x ∷ xs) [] = refl
+order_is (x ∷ xs) (y ∷ ys) = pair_decides x y (slice_cmp nat_cmp xs ys) (same_list xs ys) (less_list xs ys) (order_is xs ys)
 
 -- ---- comparing hash k of xs with hash i of ys, at byte j
 
@@ -41,7 +65,7 @@ module _ (xs : List ℕ) (k : ℕ) (ys : List ℕ) (i : ℕ) (fx : 32 * k + 32 �
       → order_of (drop j (hash_at xs k)) (drop j (hash_at ys i)) ≡ order_of (drop (j + 1) (hash_at xs k)) (drop (j + 1) (hash_at ys i))
   unfolding order_of
   order_next l e =
-      ap₂ (λ (a b : Bool). cond a Same (cond b Less Greater))
+      ap₂ (λ (a b : Bool). cond a Equal (cond b Less Greater))
       (same_step (hash_at xs k) (hash_at ys i) j (inx l) (iny l) (bytes l e))
       (less_step (hash_at xs k) (hash_at ys i) j (inx l) (iny l) (bytes l e))
 
@@ -49,7 +73,7 @@ module _ (xs : List ℕ) (k : ℕ) (ys : List ℕ) (i : ℕ) (fx : 32 * k + 32 �
       → order_of (drop j (hash_at xs k)) (drop j (hash_at ys i)) ≡ cond b Less Greater
   unfolding order_of
   stop b l n e =
-      ap₂ (λ (a b : Bool). cond a Same (cond b Less Greater))
+      ap₂ (λ (a b : Bool). cond a Equal (cond b Less Greater))
       (same_stop (hash_at xs k) (hash_at ys i) j (inx l) (iny l) (differ l n))
       (less_stop (hash_at xs k) (hash_at ys i) j (inx l) (iny l) (differ l n)
       ∙ ap₂ ltb (hash_byte xs k fx j l) (hash_byte ys i fy j l) ∙ e)
@@ -60,7 +84,7 @@ module _ (xs : List ℕ) (k : ℕ) (ys : List ℕ) (i : ℕ) (fx : 32 * k + 32 �
   pub order_greater : j < 32 → (get_or xs (32 * k + j) 0 ≡ get_or ys (32 * i + j) 0 → ⊥) → get_or ys (32 * i + j) 0 ≤ get_or xs (32 * k + j) 0 → order_of (drop j (hash_at xs k)) (drop j (hash_at ys i)) ≡ Greater
   order_greater l n b = stop false l n (le-ltb _ _ b)
 
-  pub order_same : 32 ≤ j → order_of (drop j (hash_at xs k)) (drop j (hash_at ys i)) ≡ Same
+  pub order_same : 32 ≤ j → order_of (drop j (hash_at xs k)) (drop j (hash_at ys i)) ≡ Equal
   unfolding order_of
   order_same l = rw (same_end (hash_at xs k) (hash_at ys i) j (rw (hash_length xs k fx) l) (rw (hash_length ys i fy) l))
 
@@ -70,25 +94,25 @@ module _ (h out : List ℕ) (c i : ℕ) where
   left_one : i < c → c - i ≡ suc (c - (i + 1))
   left_one l = omega arith
 
-  pub slot_less : i < c → order_of h (hash_at out i) ≡ Less → slot h (hashes_from out (c - i) i) i ≡ Before i
+  pub slot_less : i < c → order_of h (hash_at out i) ≡ Less → slot h (hashes_from out (c - i) i) i ≡ Some i
   unfolding slot hashes_from order_of
   slot_less l e =
-      by_bool (same_list h (hash_at out i)) (λ t. let q : Same ≡ Less = rw t at e in let z : ◌≡◌ {A = ℕ} 0 1 = cc in absurd (omega arith))
+      by_bool (same_list h (hash_at out i)) (λ t. let q : Equal ≡ Less = rw t at e in let z : ◌≡◌ {A = ℕ} 0 1 = cc in absurd (omega arith))
       (λ f. by_bool (less_list h (hash_at out i)) (λ t. rw (left_one l, f, t)) (λ g. let q : Greater ≡ Less = rw (f, g) at e in let z : ◌≡◌ {A = ℕ} 0 1 = cc in absurd (omega arith)))
 
-  pub slot_same : i < c → order_of h (hash_at out i) ≡ Same → slot h (hashes_from out (c - i) i) i ≡ There
+  pub slot_same : i < c → order_of h (hash_at out i) ≡ Equal → slot h (hashes_from out (c - i) i) i ≡ None
   unfolding slot hashes_from order_of
   slot_same l e =
       by_bool (same_list h (hash_at out i)) (λ t. rw (left_one l, t))
-      (λ f. by_bool (less_list h (hash_at out i)) (λ t. let q : Less ≡ Same = rw (f, t) at e in let z : ◌≡◌ {A = ℕ} 0 1 = cc in absurd (omega arith)) (λ g. let q : Greater ≡ Same = rw (f, g) at e in let z : ◌≡◌ {A = ℕ} 0 1 = cc in absurd (omega arith)))
+      (λ f. by_bool (less_list h (hash_at out i)) (λ t. let q : Less ≡ Equal = rw (f, t) at e in let z : ◌≡◌ {A = ℕ} 0 1 = cc in absurd (omega arith)) (λ g. let q : Greater ≡ Equal = rw (f, g) at e in let z : ◌≡◌ {A = ℕ} 0 1 = cc in absurd (omega arith)))
 
   pub slot_greater : i < c → order_of h (hash_at out i) ≡ Greater → slot h (hashes_from out (c - i) i) i ≡ slot h (hashes_from out (c - (i + 1)) (i + 1)) (i + 1)
   unfolding slot hashes_from order_of
   slot_greater l e =
-      by_bool (same_list h (hash_at out i)) (λ t. let q : Same ≡ Greater = rw t at e in let z : ◌≡◌ {A = ℕ} 0 1 = cc in absurd (omega arith))
+      by_bool (same_list h (hash_at out i)) (λ t. let q : Equal ≡ Greater = rw t at e in let z : ◌≡◌ {A = ℕ} 0 1 = cc in absurd (omega arith))
       (λ f. by_bool (less_list h (hash_at out i)) (λ t. let q : Less ≡ Greater = rw (f, t) at e in let z : ◌≡◌ {A = ℕ} 0 1 = cc in absurd (omega arith)) (λ g. rw (left_one l, f, g, add-one)))
 
-  pub slot_end : c ≤ i → slot h (hashes_from out (c - i) i) i ≡ Before i
+  pub slot_end : c ≤ i → slot h (hashes_from out (c - i) i) i ≡ Some i
   unfolding slot hashes_from
   slot_end l = let z : c - i ≡ 0 = omega arith in rw z
 
@@ -96,39 +120,39 @@ pub slot_start : (h out : List ℕ) (c : ℕ) → slot h (hashes_from out (c - 0
 slot_start h out c = rw sub-zero
 
 -- what the slot says of entering
-pub enter_there : (h : List ℕ) (l : List (List ℕ)) (i : ℕ) → slot h l i ≡ There → enter h l ≡ l
+pub enter_there : (h : List ℕ) (l : List (List ℕ)) (i : ℕ) → slot h l i ≡ None → enter h l ≡ l
 unfolding slot enter
 enter_there h [] i e = let z : ◌≡◌ {A = ℕ} 0 1 = cc in absurd (omega arith)
 enter_there h (x ∷ xs) i e =
     by_bool (same_list h x) (λ t. rw t)
     (λ f.
-    by_bool (less_list h x) (λ t. let q : Before i ≡ There = rw (f, t) at e in let z : ◌≡◌ {A = ℕ} 0 1 = cc in absurd (omega arith))
+    by_bool (less_list h x) (λ t. let q : Some i ≡ None = rw (f, t) at e in let z : ◌≡◌ {A = ℕ} 0 1 = cc in absurd (omega arith))
     (λ g. rw (f, g) (ap (λ (r : List (List ℕ)). x ∷ r) (enter_there h xs (suc i) (rw (f, g) at e)))))
 
 pub record Entered (h : List ℕ) (l : List (List ℕ)) (i : ℕ) : Type 0 where
   pub low : i ≤ length l
   pub parts : enter h l ≡ take i l ++ (h ∷ drop i l)
 
-slot_far : (h : List ℕ) (l : List (List ℕ)) (a j : ℕ) → slot h l a ≡ Before j → a ≤ j
+slot_far : (h : List ℕ) (l : List (List ℕ)) (a j : ℕ) → slot h l a ≡ Some j → a ≤ j
 unfolding slot
 slot_far h [] a j e = let q : a ≡ j = cc in omega arith
 slot_far h (y ∷ ys) a j e =
-    by_bool (same_list h y) (λ t. let q : There ≡ Before j = rw t at e in let z : ◌≡◌ {A = ℕ} 0 1 = cc in absurd (omega arith))
+    by_bool (same_list h y) (λ t. let q : None ≡ Some j = rw t at e in let z : ◌≡◌ {A = ℕ} 0 1 = cc in absurd (omega arith))
     (λ f.
-    by_bool (less_list h y) (λ t. let q : Before a ≡ Before j = rw (f, t) at e in let q' : a ≡ j = cc in omega arith)
+    by_bool (less_list h y) (λ t. let q : Some a ≡ Some j = rw (f, t) at e in let q' : a ≡ j = cc in omega arith)
     (λ g. let r = slot_far h ys (suc a) j (rw (f, g) at e) in omega arith))
 
-pub enter_before : (h : List ℕ) (l : List (List ℕ)) (b i : ℕ) → slot h l b ≡ Before (b + i) → Entered h l i
+pub enter_before : (h : List ℕ) (l : List (List ℕ)) (b i : ℕ) → slot h l b ≡ Some (b + i) → Entered h l i
 unfolding slot enter
 enter_before h [] b i e = let q : b ≡ b + i = cc in let z : i ≡ 0 = omega arith in record { low = omega arith; parts = rw z }
 enter_before h (x ∷ xs) b i e =
-    by_bool (same_list h x) (λ t. let q : There ≡ Before (b + i) = rw t at e in let z : ◌≡◌ {A = ℕ} 0 1 = cc in absurd (omega arith))
+    by_bool (same_list h x) (λ t. let q : None ≡ Some (b + i) = rw t at e in let z : ◌≡◌ {A = ℕ} 0 1 = cc in absurd (omega arith))
     (λ f.
     by_bool (less_list h x)
-    (λ t. let q : Before b ≡ Before (b + i) = rw (f, t) at e in let q' : b ≡ b + i = cc in let z : i ≡ 0 = omega arith in record { low = omega arith; parts = rw (f, t, z) })
+    (λ t. let q : Some b ≡ Some (b + i) = rw (f, t) at e in let q' : b ≡ b + i = cc in let z : i ≡ 0 = omega arith in record { low = omega arith; parts = rw (f, t, z) })
     (λ g. further i (rw (f, g) at e) f g (λ j. enter_before h xs (suc b) j)))
   where
-    further : (i : ℕ) → slot h xs (suc b) ≡ Before (b + i) → same_list h x ≡ false → less_list h x ≡ false → ((j : ℕ) → slot h xs (suc b) ≡ Before (suc b + j) → Entered h xs j) → Entered h (x ∷ xs) i
+    further : (i : ℕ) → slot h xs (suc b) ≡ Some (b + i) → same_list h x ≡ false → less_list h x ≡ false → ((j : ℕ) → slot h xs (suc b) ≡ Some (suc b + j) → Entered h xs j) → Entered h (x ∷ xs) i
     further zero e f g ih = let r = slot_far h xs (suc b) (b + 0) e in absurd (omega arith)
     further (suc j) e f g ih =
         let n : b + suc j ≡ suc b + j = omega arith in
@@ -235,11 +259,11 @@ module _ (out : List ℕ) (c : ℕ) (h : List ℕ) (i : ℕ) (v : Entered h (has
         ∙ sym (rw (m, bytes_of, append_assoc (take (32 * i) out) (h ++ take (32 * c - 32 * i) (drop (32 * i) out)) (drop (32 * c + 32) out), append_assoc h (take (32 * c - 32 * i) (drop (32 * i) out)) (drop (32 * c + 32) out)))
 
 -- the hash stands there: nothing moves
-pub there_bytes : (out : List ℕ) (c : ℕ) (h : List ℕ) → slot h (hashes_from out c 0) 0 ≡ There → out ≡ flat (enter h (hashes_from out c 0)) ++ drop (32 * length (enter h (hashes_from out c 0))) out
+pub there_bytes : (out : List ℕ) (c : ℕ) (h : List ℕ) → slot h (hashes_from out c 0) 0 ≡ None → out ≡ flat (enter h (hashes_from out c 0)) ++ drop (32 * length (enter h (hashes_from out c 0))) out
 there_bytes out c h e = rw (enter_there h (hashes_from out c 0) 0 e, hashes_long out c 0, flat_hashes out c 0) (sym (take-append-drop (32 * c) out))
 
-pub there_long : (out : List ℕ) (c : ℕ) (h : List ℕ) → slot h (hashes_from out c 0) 0 ≡ There → c ≡ length (enter h (hashes_from out c 0))
+pub there_long : (out : List ℕ) (c : ℕ) (h : List ℕ) → slot h (hashes_from out c 0) 0 ≡ None → c ≡ length (enter h (hashes_from out c 0))
 there_long out c h e = rw (enter_there h (hashes_from out c 0) 0 e) (sym (hashes_long out c 0))
 
-pub before_entered : (out : List ℕ) (c : ℕ) (h : List ℕ) (i : ℕ) → slot h (hashes_from out c 0) 0 ≡ Before i → Entered h (hashes_from out c 0) i
-before_entered out c h i e = let z : i ≡ 0 + i = omega arith in enter_before h (hashes_from out c 0) 0 i (e ∙ ap Before z)
+pub before_entered : (out : List ℕ) (c : ℕ) (h : List ℕ) (i : ℕ) → slot h (hashes_from out c 0) 0 ≡ Some i → Entered h (hashes_from out c 0) i
+before_entered out c h i e = let z : i ≡ 0 + i = omega arith in enter_before h (hashes_from out c 0) 0 i (e ∙ ap Some z)

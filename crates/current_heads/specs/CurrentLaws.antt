@@ -1,6 +1,6 @@
 -- The scans of `heads_are_current` put together, and what its answer says.
 -- Assumes nothing.
-use Rattle.std.specs.Prelude.{◌≡◌, refl, ◌↔◌, Bool, true, false, ◌&&◌, ◌||◌, List, map, ℕ, zero, suc, ◌/◌, ◌%◌, length}
+use Rattle.std.specs.Prelude.{◌≡◌, refl, ◌↔◌, Bool, true, false, ◌&&◌, ◌||◌, List, map, ℕ, zero, suc, ◌/◌, ◌%◌, length, Some, None, Option}
 use Rattle.std.proofs.Math.Path.{sym, ap, ap₂}
 use Rattle.std.proofs.Common.{◌∙◌, eq-eqb, ne_eqb}
 use Rattle.std.proofs.Math.Bool.{not}
@@ -12,14 +12,14 @@ use Rattle.paper.proofs.Scans.{all_ext}
 use Rattle.paper.proofs.Naming.{names_heads, every_head, every_bytes}
 use Rattle.paper.proofs.Ascending.{ascending_names}
 use Rattle.hash.specs.Hash.{same_hash, find_from, find_hash}
-use Rattle.hash.specs.declared.Found.{Found}
-use Rattle.hash.specs.declared.Found.TheVariants.{At, Unknown}
 use Rattle.tables.specs.Tables.{Tables, changes, head_at, graph}
 use Rattle.tables.specs.Valid.{Valid}
 use Rattle.heads.specs.HeadLaws.{flag_says}
-use Rattle.answer_buffer.specs.declared.YesNo.TheVariants.{Yes, No, Malformed}
 use Rattle.current_heads.specs.Current.{current, current_told, head_is, head_named}
 use Rattle.current_heads.specs.Ascents.{NamesSame, same_names, ascending_same}
+use Rattle.answer_buffer.specs.declared.Refusal.TheVariants.{Malformed}
+use Rattle.std.specs.Prelude.{Ok, Err}
+use Rattle.std.specs.Option.{is_some}
 
 -- ---- the tests of one node, from its flag
 
@@ -38,9 +38,13 @@ module _ (hs ns : List ℕ) (k : ℕ) where
 
 -- ---- a search in a list of hashes says whether it names the hash
 
-abbrev pub found : Found → Bool
-found (At k) = true
-found Unknown = false
+abbrev pub found : Option ℕ → Bool
+found (Some k) = true
+found None = false
+
+pub found_is : (o : Option ℕ) → is_some o ≡ found o
+found_is (Some k) = refl
+found_is None = refl
 
 pub find_names : (bytes h : List ℕ) (left i : ℕ) → found (find_from bytes h left i) ≡ names h (hashes_from bytes left i)
 unfolding find_from same_hash names hashes_from
@@ -88,15 +92,19 @@ module _ (t : Tables) (v : Valid t) where
 -- ---- each answer from its condition
 
 module _ (g : Graph) (bytes : List ℕ) where
-  pub told_malformed : (length bytes % 32 ≡ 0 → ⊥) → current_told g bytes ≡ Malformed
+  pub told_malformed : (length bytes % 32 ≡ 0 → ⊥) → current_told g bytes ≡ Err Malformed
   unfolding current_told
   told_malformed n = rw (ne_eqb (length bytes % 32) 0 n)
 
-  pub told_yes : length bytes % 32 ≡ 0 → current g bytes ≡ true → current_told g bytes ≡ Yes
+  pub told_current : length bytes % 32 ≡ 0 → Ok (current g bytes) ≡ current_told g bytes
+  unfolding current_told
+  told_current e = rw (eq-eqb (length bytes % 32) 0 e)
+
+  pub told_yes : length bytes % 32 ≡ 0 → current g bytes ≡ true → current_told g bytes ≡ Ok true
   unfolding current_told
   told_yes e c = rw (eq-eqb (length bytes % 32) 0 e, c)
 
-  pub told_no : length bytes % 32 ≡ 0 → current g bytes ≡ false → current_told g bytes ≡ No
+  pub told_no : length bytes % 32 ≡ 0 → current g bytes ≡ false → current_told g bytes ≡ Ok false
   unfolding current_told
   told_no e c = rw (eq-eqb (length bytes % 32) 0 e, c)
 

@@ -14,9 +14,10 @@ use Rattle.list_laws.specs.Over.{over}
 use Rattle.answer_buffer.specs.Answers.{list_answer, filled}
 use Rattle.answer_buffer.specs.AnswerLaws.{Holds, holds_start, holds_next, holds_as}
 use Rattle.answer_buffer.specs.Room.{room}
-use Rattle.answer_buffer.specs.declared.Listed.TheVariants.{Malformed}
 use Rattle.deps.specs.Deps.{hash_deps, deps_told, deps_filled}
 use Rattle.deps.specs.Parents.{deps_nodes, DepsListed}
+use Rattle.answer_buffer.specs.declared.Refusal.TheVariants.{Malformed}
+use Rattle.std.specs.Prelude.{Err}
 
 -- ---- the hashes of listed nodes
 
@@ -80,7 +81,7 @@ telling_next t ps {out₀} {out} {c} {i} s l w f =
 -- ---- each answer
 
 module _ (g : Graph) (h : List ℕ) where
-  pub deps_bad : (length h ≡ 32 → ⊥) → (room : ℕ) → deps_told g h room ≡ Malformed
+  pub deps_bad : (length h ≡ 32 → ⊥) → (room : ℕ) → deps_told g h room ≡ Err Malformed
   unfolding deps_told
   deps_bad n room = rw (ne_eqb (length h) 32 n)
 

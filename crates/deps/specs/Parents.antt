@@ -1,17 +1,15 @@
 -- How the dependencies of a hash are found: where its list of edges begins, and the nodes that a walk along that list puts down.
 -- Assumes nothing.
-use Rattle.std.specs.Prelude.{◌≡◌, cond, ◌&&◌, List, [], ℕ, ◌*◌, ◌≤◌, ltb, leb, length, get_or, take}
+use Rattle.std.specs.Prelude.{◌≡◌, cond, ◌&&◌, List, [], ℕ, ◌*◌, ◌≤◌, ltb, leb, length, get_or, take, Some, None, Option}
 use Rattle.paper.specs.Graph.{Graph, node}
 use Rattle.hash.specs.Hash.{find_hash}
-use Rattle.hash.specs.declared.Found.{Found}
-use Rattle.hash.specs.declared.Found.TheVariants.{At, Unknown}
 use Rattle.tables.specs.Tables.{Tables, graph, first_at}
 use Rattle.answer_buffer.specs.Answers.{one_hash}
 
 -- the number + 1 of the first edge of a node that was found, or 0
-abbrev pub found_edge : List ℕ → Found → ℕ
-found_edge ns (At k) = first_at ns k
-found_edge ns Unknown = 0
+abbrev pub found_edge : List ℕ → Option ℕ → ℕ
+found_edge ns (Some k) = first_at ns k
+found_edge ns None = 0
 
 -- the same of a hash: 0 also where it is none, or the table has fewer hashes than are counted
 unfoldable pub edge_of_hash : List ℕ → List ℕ → List ℕ → List ℕ → ℕ

@@ -1,12 +1,11 @@
 -- Where a list of edges begins, from each test.
 -- Assumes nothing.
-use Rattle.std.specs.Prelude.{◌≡◌, ◌&&◌, List, [], ◌∷◌, ℕ, ◌*◌, ◌≤◌, ◌<◌, eqb, leb, length}
+use Rattle.std.specs.Prelude.{◌≡◌, ◌&&◌, List, [], ◌∷◌, ℕ, ◌*◌, ◌≤◌, ◌<◌, eqb, leb, length, Some, None}
 use Rattle.std.proofs.Common.{ap, ◌∙◌, arith}
 use Rattle.std.proofs.Math.ListN.{get_or}
 use borrow.Author.Tests.{eq-eqb, ne_eqb, le-leb, lt-leb}
 use Rattle.paper.proofs.Bools.{by_bool}
 use Rattle.hash.specs.Hash.{find_hash, find_from}
-use Rattle.hash.specs.declared.Found.TheVariants.{At, Unknown}
 use Rattle.tables.specs.Tables.{first_at}
 use Rattle.deps.specs.Parents.{found_edge, edge_of_hash}
 
@@ -25,10 +24,10 @@ module _ (hs ns us h : List ℕ) where
       unfolding edge_of_hash
       found = rw (eq-eqb (length h) 32 one, le-leb (32 * get_or us 0 0) (length hs) fits)
 
-      pub edge_unknown : find_hash hs (get_or us 0 0) h ≡ Unknown → edge_of_hash hs ns us h ≡ 0
+      pub edge_unknown : find_hash hs (get_or us 0 0) h ≡ None → edge_of_hash hs ns us h ≡ 0
       edge_unknown e = found ∙ ap (found_edge ns) e
 
-      pub edge_found : (k : ℕ) → find_hash hs (get_or us 0 0) h ≡ At k → edge_of_hash hs ns us h ≡ first_at ns k
+      pub edge_found : (k : ℕ) → find_hash hs (get_or us 0 0) h ≡ Some k → edge_of_hash hs ns us h ≡ first_at ns k
       edge_found k e = found ∙ ap (found_edge ns) e
 
 -- nothing is counted

@@ -1,6 +1,6 @@
 -- Heads by their flags, and the list of them as it is entered from the last node down.
 -- Assumes nothing.
-use Rattle.std.specs.Prelude.{◌≡◌, true, false, not, eqb, set}
+use Rattle.std.specs.Prelude.{◌≡◌, true, false, not, eqb, set, Some, None}
 use Rattle.std.proofs.Math.Path.{refl, sym, ap, ap₂, subst}
 use Rattle.std.proofs.Common.{◌∙◌, eq-eqb, ne_eqb}
 use Rattle.std.proofs.Math.Logic.{⊎_elim}
@@ -20,7 +20,6 @@ use Rattle.paper.proofs.Hashes.{same_refl, same→eq, eq→same}
 use Rattle.paper.proofs.Ascending.{Once, ascending_once, ascending_grows, ascending_names}
 use Rattle.hash.specs.Hash.{find_hash}
 use Rattle.hash.specs.HashLaws.{hash_length}
-use Rattle.hash.specs.declared.Found.TheVariants.{At, Unknown}
 use Rattle.tables.specs.Tables.{Tables, tables, changes, head_at, graph}
 use Rattle.tables.specs.NodeLaws.{node_at, node_low, node_none}
 use Rattle.tables.specs.Valid.{Valid, Heads, HashesDistinct}
@@ -31,8 +30,9 @@ use Rattle.answer_buffer.specs.SlotLaws.{hashes_split}
 use Rattle.answer_buffer.specs.AnswerLaws.{Holds, holds_next, holds_as, filled_done}
 use Rattle.list_laws.specs.Over.{over_one}
 use Rattle.answer_buffer.specs.Answers.{list_answer, filled}
-use Rattle.answer_buffer.specs.declared.Listed.TheVariants.{Done}
 use Rattle.heads.specs.Heads.{head_hashes, head_places, node_in}
+use Rattle.std.specs.Prelude.{Ok, Option}
+use Rattle.std.specs.Option.{unwrap_or}
 
 abbrev pub is_head : Tables → ℕ → Bool
 is_head t k = not (wanted (graph t) k)
@@ -166,7 +166,7 @@ module _ (t : Tables) (v : Valid t) where
     all_fit : 32 * length (ascending (from_node t 0)) ≤ length out₀
     all_fit = let q = ap length from_all in omega arith
 
-    pub heads_told : Done (32 * c) ≡ list_answer (head_hashes (graph t)) (length out₀)
+    pub heads_told : Ok (32 * c) ≡ list_answer (head_hashes (graph t)) (length out₀)
     unfolding head_hashes
     heads_told = entering_told last (from_wide 0 (omega arith)) all_fit ∙ ap (λ (x : List (List ℕ)). list_answer (flat x) (length out₀)) from_all
 
@@ -193,16 +193,31 @@ module _ (hs : List ℕ) (n : ℕ) (h : List ℕ) where
   abbrev t : Tables
   t = tables hs [] [] [] [] (n ∷ [])
 
-  pub number_at : (k : ℕ) → find_hash hs n h ≡ At k → k ≡ node_in hs n h
+  pub number_at : (k : ℕ) → find_hash hs n h ≡ Some k → k ≡ node_in hs n h
   unfolding node_in node
   number_at k e = sym (node_at t h k e)
 
-  pub number_low : (k : ℕ) → find_hash hs n h ≡ At k → k < n
+  pub number_low : (k : ℕ) → find_hash hs n h ≡ Some k → k < n
   number_low k e = node_low t h k e
 
-  pub number_none : find_hash hs n h ≡ Unknown → n ≡ node_in hs n h
+  pub number_none : find_hash hs n h ≡ None → n ≡ node_in hs n h
   unfolding node_in node
   number_none e = sym (node_none t h e)
+
+  -- the same of what it finds, or n
+  told : (o : Option ℕ) → find_hash hs n h ≡ o → unwrap_or o n ≡ node_in hs n h
+  told (Some k) e = number_at k e
+  told None e = number_none e
+
+  most : (o : Option ℕ) → find_hash hs n h ≡ o → unwrap_or o n ≤ n
+  most (Some k) e = let l = number_low k e in omega arith
+  most None e = omega arith
+
+  pub number_told : unwrap_or (find_hash hs n h) n ≡ node_in hs n h
+  number_told = told (find_hash hs n h) refl
+
+  pub number_most : unwrap_or (find_hash hs n h) n ≤ n
+  number_most = most (find_hash hs n h) refl
 
 -- one more of the list
 module _ (hs : List ℕ) (n : ℕ) (list : List ℕ) {out₀ out : List ℕ} {i : ℕ} (v : Holds (map (node_in hs n) (hashes_from list i 0)) out₀ out i) where

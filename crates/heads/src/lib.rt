@@ -4,14 +4,15 @@
 ghost use Rattle.std.specs.Prelude.{◌≡◌, Bool, map, ℕ, ◌+◌, ◌*◌, ◌≤◌, ◌<◌, eqb, length};
 ghost use Rattle.paper.specs.Lists.{tally, hashes_from};
 ghost use Rattle.paper.specs.Text.{flat};
-ghost use Rattle.tables.specs.Tables.{tables, graph, head_at};
+ghost use Rattle.tables.specs.Lent.{lists};
+ghost use Rattle.tables.specs.Tables.{graph, head_at};
 ghost use Rattle.tables.specs.Valid.{Valid};
 ghost use Rattle.answer_buffer.specs.Answers.{list_answer, filled};
 ghost use Rattle.answer_buffer.specs.AnswerLaws.{Holds};
 ghost use Rattle.heads.specs.Heads.{head_hashes, head_places, node_in, Askable};
 
-use answer_buffer::Listed;
-use hash::Found;
+use answer_buffer::Refusal;
+use tables::Tables;
 
 // How many of the first n nodes are heads.
 fn count_heads(nodes: &[u32], n: usize) -> usize
@@ -19,44 +20,30 @@ fn count_heads(nodes: &[u32], n: usize) -> usize
     ensures { result ≡ tally (λ k. eqb (head_at nodes.now k) 1) n }
 {
     let mut c: usize = 0;
-    let mut k = 0;
-    while k < n {
-        if nodes[6 * k + 5] == 1 {
-            c += 1;
-        }
-        k += 1;
+    for k in 0..n {
+        c += usize::from(nodes[6 * k + 5] == 1);
     }
     c
 }
 
 // The heads' hashes, ascending.
-pub fn heads(
-    hashes: &[u8],
-    nodes: &[u32],
-    targets: &[u32],
-    nexts: &[u32],
-    clocks: &[u32],
-    counts: &[u32],
-    out: &mut [u8],
-) -> Listed
-    requires { Valid (tables hashes.now nodes.now targets.now nexts.now clocks.now counts.now) }
-    ensures value { result ≡ list_answer (head_hashes (graph (tables hashes.now nodes.now targets.now nexts.now clocks.now counts.now))) (length out.old) }
-    ensures out_after { out.new ≡ filled (head_hashes (graph (tables hashes.now nodes.now targets.now nexts.now clocks.now counts.now))) out.old }
+pub fn heads(tables: &Tables, out: &mut [u8]) -> Result<usize, Refusal>
+    requires { Valid (lists tables.now) }
+    ensures value { result ≡ list_answer (head_hashes (graph (lists tables.now))) (length out.old) }
+    ensures out_after { out.new ≡ filled (head_hashes (graph (lists tables.now))) out.old }
 {
-    let n = counts[0] as usize;
-    let count = count_heads(nodes, n);
+    let n = tables.counts[0] as usize;
+    let count = count_heads(tables.nodes, n);
     if out.len() / 32 < count {
-        return Listed::Short;
+        return Err(Refusal::Short);
     }
     let mut c: usize = 0;
-    let mut k = n;
-    while 0 < k {
-        k -= 1;
-        if nodes[6 * k + 5] == 1 {
-            c = answer_buffer::enter_hash(out, c, hashes, k);
+    for k in (0..n).rev() {
+        if tables.nodes[6 * k + 5] == 1 {
+            c = answer_buffer::enter_hash(out, c, tables.hashes, k);
         }
     }
-    Listed::Done(32 * c)
+    Ok(32 * c)
 }
 
 // Which of the first n hashes the hash is, or n where it is none of them.
@@ -64,10 +51,7 @@ fn node_number(hashes: &[u8], n: usize, hash: &[u8]) -> u32
     requires { (32 * n ≤ length hashes.now) × (n ≤ 4096) × (length hash.now ≡ 32) }
     ensures { result ≡ node_in hashes.now n hash.now }
 {
-    let Found::At(k) = hash::find(hashes, n, hash) else {
-        return n as u32;
-    };
-    k as u32
+    hash::find(hashes, n, hash).unwrap_or(n) as u32
 }
 
 // The same for each of the first c hashes of a list, into `out`.
@@ -75,35 +59,25 @@ fn nodes_into(hashes: &[u8], n: usize, list: &[u8], c: usize, out: &mut [u32])
     requires { Askable hashes.now n list.now c (length out.old) }
     ensures { Holds (map (node_in hashes.now n) (hashes_from list.now c 0)) out.old out.new c }
 {
-    let mut i = 0;
-    while i < c {
+    for i in 0..c {
         let p = 32 * i;
         out[i] = node_number(hashes, n, &list[p..p + 32]);
-        i += 1;
     }
 }
 
 // The heads' nodes, in the order of their hashes.
-pub fn head_indexes(
-    hashes: &[u8],
-    nodes: &[u32],
-    targets: &[u32],
-    nexts: &[u32],
-    clocks: &[u32],
-    counts: &[u32],
-    out: &mut [u32],
-) -> Listed
-    requires { Valid (tables hashes.now nodes.now targets.now nexts.now clocks.now counts.now) }
-    ensures value { result ≡ list_answer (head_places (graph (tables hashes.now nodes.now targets.now nexts.now clocks.now counts.now))) (length out.old) }
-    ensures out_after { out.new ≡ filled (head_places (graph (tables hashes.now nodes.now targets.now nexts.now clocks.now counts.now))) out.old }
+pub fn head_indexes(tables: &Tables, out: &mut [u32]) -> Result<usize, Refusal>
+    requires { Valid (lists tables.now) }
+    ensures value { result ≡ list_answer (head_places (graph (lists tables.now))) (length out.old) }
+    ensures out_after { out.new ≡ filled (head_places (graph (lists tables.now))) out.old }
 {
-    let n = counts[0] as usize;
-    let count = count_heads(nodes, n);
+    let n = tables.counts[0] as usize;
+    let count = count_heads(tables.nodes, n);
     if out.len() < count {
-        return Listed::Short;
+        return Err(Refusal::Short);
     }
     let mut list = [0u8; 131072];
-    heads(hashes, nodes, targets, nexts, clocks, counts, &mut list);
-    nodes_into(hashes, n, &list, count, out);
-    Listed::Done(count)
+    heads(tables, &mut list)?;
+    nodes_into(tables.hashes, n, &list, count, out);
+    Ok(count)
 }

@@ -8,8 +8,7 @@ ghost use Rattle.lent_place.specs.Places.{told_in};
 pub fn tell(told: &mut [u64], v: u64)
     ensures { told.new ≡ told_in v told.old }
 {
-    if told.len() == 0 {
-        return;
+    if let Some(place) = told.first_mut() {
+        *place = v;
     }
-    told[0] = v;
 }

@@ -8,11 +8,12 @@ use Rattle.paper.proofs.Each.{length_each, get_d_each}
 use Rattle.tables.specs.Tables.{Tables, graph, actors}
 use Rattle.answer_buffer.specs.Answers.{list_answer, filled}
 use Rattle.answer_buffer.specs.AnswerLaws.{filled_done}
-use Rattle.answer_buffer.specs.declared.Listed.TheVariants.{Malformed}
 use Rattle.list_clock.specs.Clocks.{clock_entries, Entries, whole_clock, clock_told, clock_filled}
+use Rattle.answer_buffer.specs.declared.Refusal.TheVariants.{Malformed}
+use Rattle.std.specs.Prelude.{Err}
 
 module _ (t : Tables) (bytes : List ℕ) where
-  pub clock_bad : (length bytes % 32 ≡ 0 → ⊥) → (room : ℕ) → clock_told t bytes room ≡ Malformed
+  pub clock_bad : (length bytes % 32 ≡ 0 → ⊥) → (room : ℕ) → clock_told t bytes room ≡ Err Malformed
   unfolding clock_told
   clock_bad n room = rw (ne_eqb (length bytes % 32) 0 n)
 

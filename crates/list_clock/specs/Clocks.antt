@@ -5,8 +5,9 @@ use Rattle.paper.specs.Lists.{each_below, hashes_of}
 use Rattle.paper.specs.Graph.{Graph, nodes, clock}
 use Rattle.tables.specs.Tables.{Tables, graph, actors}
 use Rattle.answer_buffer.specs.Answers.{whole_list, list_answer, filled}
-use Rattle.answer_buffer.specs.declared.Listed.{Listed}
-use Rattle.answer_buffer.specs.declared.Listed.TheVariants.{Malformed}
+use Rattle.answer_buffer.specs.Answers.{Listed}
+use Rattle.answer_buffer.specs.declared.Refusal.TheVariants.{Malformed}
+use Rattle.std.specs.Prelude.{Err}
 
 -- the sequence clock of the hashes of some bytes, at an actor
 unfoldable pub clock_entries : Graph → List ℕ → ℕ → ℕ
@@ -17,7 +18,7 @@ abbrev pub whole_clock : Tables → List ℕ → List ℕ
 whole_clock t bytes = each_below (clock_entries (graph t) bytes) (actors t)
 
 unfoldable pub clock_told : Tables → List ℕ → ℕ → Listed
-clock_told t bytes room = cond (whole_list bytes) (list_answer (whole_clock t bytes) room) Malformed
+clock_told t bytes room = cond (whole_list bytes) (list_answer (whole_clock t bytes) room) (Err Malformed)
 
 unfoldable pub clock_filled : Tables → List ℕ → List ℕ → List ℕ
 clock_filled t bytes out = cond (whole_list bytes) (filled (whole_clock t bytes) out) out

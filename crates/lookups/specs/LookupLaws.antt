@@ -1,52 +1,70 @@
 -- Each answer from its condition, and an actor's last change.
 -- Assumes nothing.
-use Rattle.std.specs.Prelude.{◌≡◌, Bool, ◌&&◌, List, ℕ, suc, ◌+◌, ◌≤◌, ◌<◌, max, ltb, length}
+use Rattle.std.specs.Prelude.{◌≡◌, Bool, ◌&&◌, List, ℕ, suc, ◌+◌, ◌≤◌, ◌<◌, max, ltb, length, true, false, ◌*◌, Ok, Err, Some}
 use Rattle.std.proofs.Math.Path.{refl, sym, ap}
 use Rattle.std.proofs.Common.{◌∙◌, add-one}
 use Rattle.std.proofs.Math.Bool.{cond}
 use native.Mathlib.Omega.{arith}
 use Rattle.std.proofs.Math.Dec.{eqb}
 use borrow.Author.Tests.{eq-eqb, ne_eqb, eqb-true, lt-ltb, le-ltb, ltb-true, ltb-false}
+use Rattle.std.specs.Option.{ok_or, is_some}
+use Rattle.tables.specs.Valid.{Valid}
+use Rattle.tables.specs.Node.{found_as}
+use Rattle.tables.specs.NodeLaws.{at_node, at_low}
+use Rattle.answer_buffer.specs.Room.{room}
 use Rattle.paper.specs.Lists.{pick, tally, first_below}
 use Rattle.paper.proofs.Count.{pick_length}
-use Rattle.tables.specs.Tables.{Tables, graph, actors}
+use Rattle.tables.specs.Tables.{Tables, changes, graph, actors}
 use Rattle.lookups.specs.declared.Which.{Which}
 use Rattle.paper.specs.Graph.{Graph, node, change_at, max_op_of, ValidGraph}
 use Rattle.paper.specs.Adding.{seq_for_actor}
 use Rattle.paper.proofs.Bools.{by_bool, and_both, and_fst, and_snd, to_false}
 use Rattle.paper.proofs.First.{first_none, first_is, first_says}
 use Rattle.paper.proofs.Chain.{same_node, node_at}
-use Rattle.answer_buffer.specs.declared.Place.TheVariants.{At, Malformed, NotFound}
-use Rattle.answer_buffer.specs.declared.YesNo.TheVariants.{Yes, No, Malformed as Untold}
+use Rattle.answer_buffer.specs.declared.Refusal.TheVariants.{Malformed, NotFound}
 use Rattle.lookups.specs.Lookups.{looked_up, has, largest, actor_listed, actor_list}
 
 -- ---- a hash
 
 module _ (g : Graph) (h : List ℕ) where
-  pub look_bad : (length h ≡ 32 → ⊥) → looked_up g h ≡ Malformed
+  pub look_bad : (length h ≡ 32 → ⊥) → looked_up g h ≡ Err Malformed
   unfolding looked_up
   look_bad n = rw (ne_eqb (length h) 32 n)
 
-  pub has_bad : (length h ≡ 32 → ⊥) → has g h ≡ Untold
+  pub has_bad : (length h ≡ 32 → ⊥) → has g h ≡ Err Malformed
   unfolding has
   has_bad n = rw (ne_eqb (length h) 32 n)
 
   module _ (l : length h ≡ 32) where
-    pub look_none : node g h ≡ g.size → looked_up g h ≡ NotFound
+    pub look_none : node g h ≡ g.size → looked_up g h ≡ Err NotFound
     unfolding looked_up
     look_none e = rw (eq-eqb (length h) 32 l, le-ltb (node g h) g.size (omega arith))
 
-    pub look_at : (k : ℕ) → node g h ≡ k → k < g.size → looked_up g h ≡ At k
+    pub look_at : (k : ℕ) → node g h ≡ k → k < g.size → looked_up g h ≡ Ok k
     unfolding looked_up
-    look_at k e b = rw (eq-eqb (length h) 32 l, lt-ltb (node g h) g.size (omega arith)) (ap At e)
+    look_at k e b = rw (eq-eqb (length h) 32 l, lt-ltb (node g h) g.size (omega arith)) (ap Ok e)
 
-    pub has_not : node g h ≡ g.size → has g h ≡ No
+    pub has_not : node g h ≡ g.size → has g h ≡ Ok false
     unfolding has
     has_not e = rw (eq-eqb (length h) 32 l, le-ltb (node g h) g.size (omega arith))
 
-    pub has_it : (k : ℕ) → node g h ≡ k → k < g.size → has g h ≡ Yes
+    pub has_it : (k : ℕ) → node g h ≡ k → k < g.size → has g h ≡ Ok true
     unfolding has
     has_it k e b = rw (eq-eqb (length h) 32 l, lt-ltb (node g h) g.size (omega arith))
+
+-- what the search finds, as an answer
+module _ (g : Graph) (h : List ℕ) (l : length h ≡ 32) where
+  pub look_found : ok_or (found_as g.size (node g h)) NotFound ≡ looked_up g h
+  unfolding found_as looked_up
+  look_found = rw (eq-eqb (length h) 32 l) (by_bool (ltb (node g h) g.size) (λ t. rw t) (λ f. rw f))
+
+  pub has_found : is_some (found_as g.size (node g h)) ≡ ltb (node g h) g.size
+  unfolding found_as
+  has_found = by_bool (ltb (node g h) g.size) (λ t. rw t) (λ f. rw f)
+
+  pub has_told : Ok (ltb (node g h) g.size) ≡ has g h
+  unfolding has
+  has_told = rw (eq-eqb (length h) 32 l)
 
 -- ---- an actor's last change: a scan from the end that stands at k has passed none of its changes
 
@@ -105,6 +123,20 @@ module _ (g : Graph) (v : ValidGraph g) (a : ℕ) where
   change_unknown n q =
       first_none (λ j. eqb (g.actor j) a && eqb (g.seq j) q) g.size
       (λ j b. to_false (eqb (g.actor j) a && eqb (g.seq j) q) (λ t. n j b (eqb-true (g.actor j) a (and_fst (eqb (g.actor j) a) (eqb (g.seq j) q) t))))
+
+-- a change that was found: which it is, and that its record and its hash lie in the tables
+pub record FoundIs (t : Tables) (c k : ℕ) : Type 0 where
+  pub is : c ≡ k
+  pub low : c < changes t
+  pub node_in : 6 * k + 6 ≤ length t.nodes
+  pub hash_in : 32 * k + 32 ≤ length t.hashes
+
+pub found_is : (t : Tables) → Valid t → (c k : ℕ) → found_as (changes t) c ≡ Some k → FoundIs t c k
+found_is t v c k e =
+    let i = at_node (changes t) c k e in
+    let l = at_low (changes t) c k e in
+    let r = room t v in
+    record { is = i; low = l; node_in = omega (arith, r.nodes_in); hash_in = omega (arith, r.hashes_in) }
 
 -- ---- the largest
 

@@ -6,8 +6,9 @@ use Rattle.paper.specs.Text.{flat}
 use Rattle.paper.specs.Graph.{Graph, nodes, missing}
 use Rattle.tables.specs.Tables.{actor_at, seq_at}
 use Rattle.answer_buffer.specs.Answers.{whole_list, list_answer, filled}
-use Rattle.answer_buffer.specs.declared.Listed.{Listed}
-use Rattle.answer_buffer.specs.declared.Listed.TheVariants.{Done, Malformed}
+use Rattle.answer_buffer.specs.Answers.{Listed}
+use Rattle.answer_buffer.specs.declared.Refusal.TheVariants.{Malformed}
+use Rattle.std.specs.Prelude.{Ok, Err}
 
 -- node k's sequence is above its actor's entry in the clock table
 unfoldable pub above_at : List ℕ → List ℕ → ℕ → Bool
@@ -25,7 +26,7 @@ missing_hashes g have = flat (map g.hash (missing g (nodes g (hashes_of have))))
 
 -- with an empty have-list all hashes of the table, which is not written; else the list goes into the buffer
 unfoldable pub missing_told : Graph → List ℕ → ℕ → Listed
-missing_told g have room = cond (whole_list have) (cond (eqb (length have) 0) (Done (32 * g.size)) (list_answer (missing_hashes g have) room)) Malformed
+missing_told g have room = cond (whole_list have) (cond (eqb (length have) 0) (Ok (32 * g.size)) (list_answer (missing_hashes g have) room)) (Err Malformed)
 
 unfoldable pub missing_filled : Graph → List ℕ → List ℕ → List ℕ
 missing_filled g have out = cond (whole_list have) (cond (eqb (length have) 0) out (filled (missing_hashes g have) out)) out

@@ -15,9 +15,10 @@ use Rattle.tables.specs.Tables.{Tables, changes, actor_at, seq_at, graph}
 use Rattle.tables.specs.Valid.{Valid}
 use Rattle.answer_buffer.specs.Answers.{list_answer, filled}
 use Rattle.answer_buffer.specs.Room.{room, actor_low}
-use Rattle.answer_buffer.specs.declared.Listed.TheVariants.{Done, Malformed}
 use Rattle.list_clock.specs.Clocks.{clock_entries, Entries}
 use Rattle.missing.specs.Missing.{above_at, Within, missing_hashes, missing_told, missing_filled, shown}
+use Rattle.answer_buffer.specs.declared.Refusal.TheVariants.{Malformed}
+use Rattle.std.specs.Prelude.{Ok, Err}
 
 module _ (t : Tables) (v : Valid t) (have clock₀ clock' : List ℕ) (e : Entries t have clock₀ clock') where
   above_is : (k : ℕ) → k < changes t → above_at t.nodes clock' k ≡ above (graph t) (clock (graph t) (nodes (graph t) (hashes_of have))) k
@@ -36,7 +37,7 @@ module _ (t : Tables) (v : Valid t) (have clock₀ clock' : List ℕ) (e : Entri
 -- ---- each answer
 
 module _ (g : Graph) (have : List ℕ) where
-  pub bad_told : (length have % 32 ≡ 0 → ⊥) → (room : ℕ) → missing_told g have room ≡ Malformed
+  pub bad_told : (length have % 32 ≡ 0 → ⊥) → (room : ℕ) → missing_told g have room ≡ Err Malformed
   unfolding missing_told
   bad_told n room = rw (ne_eqb (length have % 32) 0 n)
 
@@ -45,7 +46,7 @@ module _ (g : Graph) (have : List ℕ) where
   bad_filled n out = rw (ne_eqb (length have % 32) 0 n)
 
   module _ (e : length have % 32 ≡ 0) where
-    pub empty_told : length have ≡ 0 → (room : ℕ) → missing_told g have room ≡ Done (32 * g.size)
+    pub empty_told : length have ≡ 0 → (room : ℕ) → missing_told g have room ≡ Ok (32 * g.size)
     unfolding missing_told
     empty_told z room = rw (eq-eqb (length have % 32) 0 e, eq-eqb (length have) 0 z)
 

@@ -8,7 +8,7 @@ use Rattle.std.proofs.lemmas.List.{length-replicate}
 use Rattle.std.proofs.lemmas.Bool.{eqb-false}
 use Rattle.paper.specs.Lists.{each_below, first_below}
 use Rattle.paper.specs.Graph.{Graph, change_at, max_op_of, op_clock, ValidGraph as ValidGraph}
-use Rattle.paper.proofs.Bools.{by_bool, not-both, and_fst, and_snd, below_or_not}
+use Rattle.paper.proofs.Bools.{by_bool, to_false, not-both, and_fst, and_snd, below_or_not}
 use Rattle.paper.proofs.First.{first_says}
 use Rattle.paper.proofs.Chain.{same_node}
 use Rattle.paper.proofs.Each.{length_each, to_each, each_ext}
@@ -20,9 +20,10 @@ use Rattle.lookups.specs.LookupLaws.{max_op_known, max_op_none}
 use Rattle.answer_buffer.specs.Answers.{list_answer, filled}
 use Rattle.answer_buffer.specs.AnswerLaws.{filled_done}
 use Rattle.answer_buffer.specs.Room.{room, actor_low}
-use Rattle.answer_buffer.specs.declared.Listed.TheVariants.{Malformed}
 use Rattle.list_clock.specs.Clocks.{clock_entries, Entries}
 use Rattle.op_clock.specs.OpClocks.{op_entries, whole_op_clock, op_clock_told, op_clock_filled, latest, latest_at, Placed}
+use Rattle.answer_buffer.specs.declared.Refusal.TheVariants.{Malformed}
+use Rattle.std.specs.Prelude.{Err}
 
 -- ---- the last that passes, where no more than one does
 
@@ -104,6 +105,26 @@ module _ {ns clock : List ℕ} {n w : ℕ} {out : List ℕ} {k : ℕ} (p : Passi
         get_or-set_other out (actor_at ns k) a _ 0 (λ q. d (sym q)) ∙ p.each a h ∙ sym (latest_next ns clock k a ∙ ap (λ (b : Bool). cond (b && eqb (seq_at ns k) (get_or clock a 0)) (max_op_at ns k) (latest_at ns clock k a)) f));
   }
 
+  -- node k has its actor's entry
+  pub passing_hit : k < n → actor_at ns k < w → seq_at ns k ≡ get_or clock (actor_at ns k) 0 → Passing ns clock n w (set out (actor_at ns k) (max_op_at ns k)) (k + 1)
+  passing_hit l b e = rw (eq-eqb (seq_at ns k) (get_or clock (actor_at ns k) 0) e) at (passing_next l b)
+
+  -- it does not
+  pub passing_skip : k < n → (seq_at ns k ≡ get_or clock (actor_at ns k) 0 → ⊥) → Passing ns clock n w out (k + 1)
+  passing_skip l d = record {
+    inside = omega arith;
+    long = p.long;
+    each =
+        λ a h.
+        let no : (eqb (actor_at ns k) a && eqb (seq_at ns k) (get_or clock a 0)) ≡ false =
+        to_false (eqb (actor_at ns k) a && eqb (seq_at ns k) (get_or clock a 0))
+        (λ t.
+        let e = eqb-true (actor_at ns k) a (and_fst (eqb (actor_at ns k) a) (eqb (seq_at ns k) (get_or clock a 0)) t) in
+        let q = eqb-true (seq_at ns k) (get_or clock a 0) (and_snd (eqb (actor_at ns k) a) (eqb (seq_at ns k) (get_or clock a 0)) t) in
+        d (q ∙ ap (λ (x : ℕ). get_or clock x 0) (sym e))) in
+        p.each a h ∙ sym (latest_next ns clock k a ∙ ap (λ (b : Bool). cond b (max_op_at ns k) (latest_at ns clock k a)) no);
+  }
+
   pub passing_end : n ≤ k → out ≡ each_below (latest_at ns clock n) w
   passing_end l =
       let e : k ≡ n = (let i = p.inside in omega arith) in
@@ -132,7 +153,7 @@ module _ (t : Tables) (v : Valid t) (bytes clock₀ clock : List ℕ) (e : Entri
 -- ---- each answer
 
 module _ (t : Tables) (bytes : List ℕ) where
-  pub ops_bad : (length bytes % 32 ≡ 0 → ⊥) → (room : ℕ) → op_clock_told t bytes room ≡ Malformed
+  pub ops_bad : (length bytes % 32 ≡ 0 → ⊥) → (room : ℕ) → op_clock_told t bytes room ≡ Err Malformed
   unfolding op_clock_told
   ops_bad n room = rw (ne_eqb (length bytes % 32) 0 n)
 

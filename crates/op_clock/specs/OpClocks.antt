@@ -5,8 +5,9 @@ use Rattle.paper.specs.Lists.{each_below, hashes_of}
 use Rattle.paper.specs.Graph.{Graph, nodes, op_clock}
 use Rattle.tables.specs.Tables.{Tables, graph, actors, actor_at, seq_at, max_op_at}
 use Rattle.answer_buffer.specs.Answers.{whole_list, list_answer, filled}
-use Rattle.answer_buffer.specs.declared.Listed.{Listed}
-use Rattle.answer_buffer.specs.declared.Listed.TheVariants.{Malformed}
+use Rattle.answer_buffer.specs.Answers.{Listed}
+use Rattle.answer_buffer.specs.declared.Refusal.TheVariants.{Malformed}
+use Rattle.std.specs.Prelude.{Err}
 
 -- the op clock of the hashes of some bytes, at an actor
 unfoldable pub op_entries : Graph → List ℕ → ℕ → ℕ
@@ -17,7 +18,7 @@ abbrev pub whole_op_clock : Tables → List ℕ → List ℕ
 whole_op_clock t bytes = each_below (op_entries (graph t) bytes) (actors t)
 
 unfoldable pub op_clock_told : Tables → List ℕ → ℕ → Listed
-op_clock_told t bytes room = cond (whole_list bytes) (list_answer (whole_op_clock t bytes) room) Malformed
+op_clock_told t bytes room = cond (whole_list bytes) (list_answer (whole_op_clock t bytes) room) (Err Malformed)
 
 unfoldable pub op_clock_filled : Tables → List ℕ → List ℕ → List ℕ
 op_clock_filled t bytes out = cond (whole_list bytes) (filled (whole_op_clock t bytes) out) out
