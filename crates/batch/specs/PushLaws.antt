@@ -1,5 +1,5 @@
 -- Laws of pushing.
-use Rattle.std.specs.Prelude.{◌≡◌, refl, ℕ, ◌+◌, ◌/◌, ◌%◌, ◌<◌, ◌≤◌, List, Bool, true, false, cond, eqb, ltb, leb, length}
+use Rattle.std.specs.Prelude.{◌≡◌, refl, ℕ, ◌+◌, ◌/◌, ◌%◌, ◌<◌, ◌≤◌, List, false, eqb, ltb, leb, length, Ok}
 use Rattle.std.proofs.Common.{sym, arith, eqb-true, ltb-false, leb-false}
 use Rattle.std.proofs.Math.Seq.{take-length}
 use Rattle.list_laws.specs.Over.{part}
@@ -8,9 +8,8 @@ use Rattle.ready.specs.Tables.{known_in}
 use Rattle.records.specs.RecordLaws.{rooms_less}
 use Rattle.waiting.specs.Valid.{room, waiting, has_actor_seq_in, StoreValid}
 use Rattle.waiting.specs.ValidLaws.{sized_rooms}
+use Rattle.waiting.specs.RefusedLaws.{not_refused}
 use Rattle.batch.specs.Push.{is_malformed, push_judged, Counted, Placeable}
-use Rattle.batch.specs.declared.Pushed.{Pushed}
-use Rattle.batch.specs.declared.Pushed.TheVariants.{Done}
 
 -- the whole of a list is a part of it
 pub whole_part : (h : List ℕ) (n : ℕ) → length h ≡ n → part h 0 n ≡ h
@@ -33,11 +32,6 @@ pub record Fine (hs ns cs h : List ℕ) (key seq : ℕ) (needs : List ℕ) : Typ
   pub few : length needs / 32 ≤ 32
   pub space : waiting cs < room hs
 
--- a refusal is not 0
-refused : (b : Bool) (x rest : Pushed) → ((x ≡ Done) → ⊥) → cond b x rest ≡ Done → (b ≡ false) × (rest ≡ Done)
-refused true x rest bad e = absurd (bad e)
-refused false x rest bad e = (refl, e)
-
 pub whole : (h needs : List ℕ) → is_malformed h needs ≡ false → (length h ≡ 32) × (length needs % 32 ≡ 0)
 unfolding is_malformed
 whole h needs e =
@@ -45,14 +39,14 @@ whole h needs e =
     (λ t. by_bool (eqb (length needs % 32) 0) (λ u. (eqb-true (length h) 32 t, eqb-true (length needs % 32) 0 u)) (λ u. not-both (sym (rw (t, u) at e)) refl))
     (λ f. not-both (sym (rw f at e)) refl)
 
-pub done_fine : (hs ns cs h : List ℕ) (key seq : ℕ) (needs : List ℕ) → push_judged hs ns cs h key seq needs ≡ Done → Fine hs ns cs h key seq needs
+pub done_fine : (hs ns cs h : List ℕ) (key seq : ℕ) (needs : List ℕ) → push_judged hs ns cs h key seq needs ≡ Ok tt → Fine hs ns cs h key seq needs
 unfolding push_judged
 done_fine hs ns cs h key seq needs e =
-    let a = refused (is_malformed h needs) _ _ (λ w. let z : ◌≡◌ {A = ℕ} 0 1 = cc in omega arith) e in
-    let b = refused (known_in hs (waiting cs) h) _ _ (λ w. let z : ◌≡◌ {A = ℕ} 0 1 = cc in omega arith) a.1 in
-    let c = refused (has_actor_seq_in ns (waiting cs) key seq) _ _ (λ w. let z : ◌≡◌ {A = ℕ} 0 1 = cc in omega arith) b.1 in
-    let d = refused (ltb 32 (length needs / 32)) _ _ (λ w. let z : ◌≡◌ {A = ℕ} 0 1 = cc in omega arith) c.1 in
-    let f = refused (leb (room hs) (waiting cs)) _ _ (λ w. let z : ◌≡◌ {A = ℕ} 0 1 = cc in omega arith) d.1 in
+    let a = not_refused (is_malformed h needs) _ _ e in
+    let b = not_refused (known_in hs (waiting cs) h) _ _ a.1 in
+    let c = not_refused (has_actor_seq_in ns (waiting cs) key seq) _ _ b.1 in
+    let d = not_refused (ltb 32 (length needs / 32)) _ _ c.1 in
+    let f = not_refused (leb (room hs) (waiting cs)) _ _ d.1 in
     let w = whole h needs a.0 in
     record {
       hash_whole = w.0;

@@ -1,37 +1,24 @@
 // A batch of waiting changes: pushing to it.
 #![tactic(auto)]
 
-ghost use Rattle.std.specs.Prelude.{◌≡◌, ℕ, ◌+◌, ◌*◌, ◌≤◌, ◌<◌, length, get_or};
+ghost use Rattle.std.specs.Prelude.{◌≡◌, ℕ, ◌+◌, ◌*◌, ◌≤◌, ◌<◌, length, get_or, Ok, Err};
 ghost use Rattle.waiting.specs.Valid.{StoreValid, HeldOrNot};
 ghost use Rattle.batch.specs.Push.{is_malformed, Counted, push_judged, Placeable, StandsLast, PushedTo};
 
 use ready::is_known;
 use records::{copy, put_five};
-use waiting::{has_pair, valid};
-
-// What a push answers.
-#[derive(Clone, Copy)]
-pub enum Pushed {
-    Done,
-    NotValid,
-    Malformed,
-    InBatch,
-    Waits,
-    TooMany,
-    Full,
-}
+use waiting::{QueueRefusal, check, has_pair};
 
 // Is the hash not of 32 bytes, or the list of hashes no multiple of 32?
+#[tactic(auto, unfolding(crate::specs::Push::is_malformed))]
 fn malformed(hash: &[u8], needs: &[u8]) -> bool
     ensures { result ≡ is_malformed hash.now needs.now }
 {
-    if hash.len() != 32 {
-        return true;
-    }
-    needs.len() % 32 != 0
+    hash.len() != 32 || needs.len() % 32 != 0
 }
 
 // What a push would answer; changes nothing.
+#[tactic(auto, unfolding(crate::specs::Push::push_judged))]
 pub fn judge_push(
     hashes: &[u8],
     numbers: &[u64],
@@ -40,27 +27,27 @@ pub fn judge_push(
     key: u64,
     seq: u64,
     needs: &[u8],
-) -> Pushed
+) -> Result<(), QueueRefusal>
     requires { Counted hashes.now numbers.now count.now }
     ensures { result ≡ push_judged hashes.now numbers.now count.now hash.now key seq needs.now }
 {
     if malformed(hash, needs) {
-        return Pushed::Malformed;
+        return Err(QueueRefusal::Malformed);
     }
     let n = count[0] as usize;
     if is_known(hashes, n, hash) {
-        return Pushed::InBatch;
+        return Err(QueueRefusal::AlreadyKnown);
     }
     if has_pair(numbers, n, key, seq) {
-        return Pushed::Waits;
+        return Err(QueueRefusal::AlreadyWaiting);
     }
     if 32 < needs.len() / 32 {
-        return Pushed::TooMany;
+        return Err(QueueRefusal::ManyDependencies);
     }
     if hashes.len() / 32 <= n {
-        return Pushed::Full;
+        return Err(QueueRefusal::NoQueueRoom);
     }
-    Pushed::Done
+    Ok(())
 }
 
 // Puts a change after the others.
@@ -87,6 +74,7 @@ fn place(
 }
 
 // Takes a change into a valid batch: 2, 3, 16, 8, 17, or 0 and it stands after the others.
+#[tactic(auto, unfolding(crate::specs::Push::PushedTo))]
 pub fn take_in(
     hashes: &mut [u8],
     numbers: &mut [u64],
@@ -98,29 +86,20 @@ pub fn take_in(
     top: u64,
     ops: u64,
     needs: &[u8],
-) -> Pushed
+) -> Result<(), QueueRefusal>
     requires { StoreValid hashes.old numbers.old deps.old count.old }
     ensures value { result ≡ push_judged hashes.old numbers.old count.old hash.now key seq needs.now }
     ensures pushed_to { PushedTo result hashes.old numbers.old deps.old count.old hash.now key seq top ops needs.now hashes.new numbers.new deps.new count.new }
 {
-    let answer = judge_push(hashes, numbers, count, hash, key, seq, needs);
-    match answer {
-        Pushed::NotValid => Pushed::NotValid,
-        Pushed::Malformed => Pushed::Malformed,
-        Pushed::InBatch => Pushed::InBatch,
-        Pushed::Waits => Pushed::Waits,
-        Pushed::TooMany => Pushed::TooMany,
-        Pushed::Full => Pushed::Full,
-        Pushed::Done => {
-            place(
-                hashes, numbers, deps, count, hash, key, seq, top, ops, needs,
-            );
-            Pushed::Done
-        }
-    }
+    judge_push(hashes, numbers, count, hash, key, seq, needs)?;
+    place(
+        hashes, numbers, deps, count, hash, key, seq, top, ops, needs,
+    );
+    Ok(())
 }
 
 // Takes a change into a batch: 1 if the batch is not valid, 2, 3, 16, 8, 17, or 0 and it stands after the others. Every number but 0 changes nothing.
+#[tactic(auto, unfolding(crate::specs::Push::PushedTo))]
 pub fn push(
     hashes: &mut [u8],
     numbers: &mut [u64],
@@ -132,13 +111,11 @@ pub fn push(
     top: u64,
     ops: u64,
     needs: &[u8],
-) -> Pushed
-    ensures held_or_not { HeldOrNot (StoreValid hashes.old numbers.old deps.old count.old) (result ≡ push_judged hashes.old numbers.old count.old hash.now key seq needs.now) (result ≡ Pushed.NotValid) }
+) -> Result<(), QueueRefusal>
+    ensures held_or_not { HeldOrNot (StoreValid hashes.old numbers.old deps.old count.old) (result ≡ push_judged hashes.old numbers.old count.old hash.now key seq needs.now) (result ≡ Err QueueRefusal.NotValid) }
     ensures pushed_to { PushedTo result hashes.old numbers.old deps.old count.old hash.now key seq top ops needs.now hashes.new numbers.new deps.new count.new }
 {
-    if !valid(hashes, numbers, deps, count) {
-        return Pushed::NotValid;
-    }
+    check(hashes, numbers, deps, count)?;
     take_in(
         hashes, numbers, deps, count, hash, key, seq, top, ops, needs,
     )

@@ -1,15 +1,13 @@
 -- Dropping a branch over the lent tables: the list of the dropped ones, and what is left.
-use Rattle.std.specs.Prelude.{◌≡◌, ℕ, ◌+◌, ◌-◌, ◌*◌, ◌≤◌, List, ◌++◌, Bool, not, ◌&&◌, eqb, leb, length, get_or, take}
+use Rattle.std.specs.Prelude.{◌≡◌, ℕ, ◌+◌, ◌-◌, ◌*◌, ◌≤◌, List, ◌++◌, Bool, not, ◌&&◌, eqb, leb, length, get_or, take, ⊤, Result, Ok, Err}
 use Rattle.paper.specs.Lists.{mem, names, pick, tally}
 use Rattle.paper.specs.Queue.{drop_from, dropped, kept}
 use Rattle.paper.proofs.Dropped.{Spread}
 use Rattle.paper.specs.Lists.{hash_at, hashes_from}
 use Rattle.ready.specs.Tables.{queue_of, dep_count, DepsHeld}
-use Rattle.paper.specs.Numbers.{number, done, not_valid}
 use Rattle.waiting.specs.Valid.{waiting, Same}
 use Rattle.waiting.specs.Taken.{TakenOut}
-use Rattle.branch.specs.declared.BranchDropped.{BranchDropped}
-use Rattle.branch.specs.declared.BranchDropped.TheVariants.{Done, NotValid}
+use Rattle.waiting.specs.declared.QueueRefusal.{QueueRefusal}
 
 -- record i is the actor's, at or after the sequence
 abbrev pub on_branch : List ℕ → ℕ → ℕ → ℕ → Bool
@@ -54,12 +52,7 @@ pub record DropList (hs ns ds : List ℕ) (n key from : ℕ) (list₀ : List ℕ
 unfoldable pub kept_of : List ℕ → List ℕ → List ℕ → List ℕ → ℕ → ℕ → List ℕ
 kept_of hs ns ds cs key from = kept (queue_of hs ns ds (waiting cs)) key from
 
--- the paper's numbers
-abbrev pub branch_number : BranchDropped → ℕ
-branch_number Done = number done
-branch_number NotValid = number not_valid
-
 -- on 0 the kept ones stand in the queue, on 1 nothing changed
-unfoldable pub RemovedTo : BranchDropped → List ℕ → List ℕ → List ℕ → List ℕ → ℕ → ℕ → List ℕ → List ℕ → List ℕ → List ℕ → Type 0
-RemovedTo Done hs ns ds cs key from hs' ns' ds' cs' = TakenOut hs ns ds cs (kept_of hs ns ds cs key from) hs' ns' ds' cs'
-RemovedTo NotValid hs ns ds cs key from hs' ns' ds' cs' = Same hs ns ds cs hs' ns' ds' cs'
+unfoldable pub RemovedTo : Result ⊤ QueueRefusal → List ℕ → List ℕ → List ℕ → List ℕ → ℕ → ℕ → List ℕ → List ℕ → List ℕ → List ℕ → Type 0
+RemovedTo (Ok a) hs ns ds cs key from hs' ns' ds' cs' = TakenOut hs ns ds cs (kept_of hs ns ds cs key from) hs' ns' ds' cs'
+RemovedTo (Err e) hs ns ds cs key from hs' ns' ds' cs' = Same hs ns ds cs hs' ns' ds' cs'

@@ -1,7 +1,8 @@
 -- Laws of dropping a branch.
 use Rattle.std.specs.Prelude.{◌≡◌, refl, List, [], ◌∷◌, ◌++◌, Bool, true, false, not, cond, ◌||◌, length, take, get_or}
 use Rattle.std.proofs.Common.{sym, ap, ◌∙◌, subst, add-zero, add-one, append-nil, append_assoc, length-append, length-take-le, take-take, get_or-take}
-use Prim.Native.Nat.{ℕ, suc, ◌+◌, ◌-◌, ◌<◌, ◌≤◌}
+use Prim.Native.Nat.{ℕ, zero, suc, ◌+◌, ◌-◌, ◌<◌, ◌≤◌}
+use Rattle.std.specs.List.{list_any, range_with_len}
 use Rattle.std.proofs.Math.Nat.{sub-zero}
 use native.Mathlib.Omega.{arith}
 use Rattle.std.proofs.lemmas.List.{take-append-le}
@@ -20,27 +21,15 @@ use Rattle.waiting.specs.Taken.{TakenOut}
 
 -- ---- the scan of a list of hashes
 
-module _ (h ds : List ℕ) (first m : ℕ) where
-  pub names_start : names h (hashes_from ds (m - 0) (first + 0)) ≡ names h (hashes_from ds m first)
-  names_start = rw (sub-zero, add-zero first)
+names_any : (h ds : List ℕ) (first a m : ℕ) → list_any (λ j. same_list (hash_at ds (first + j)) h) (range_with_len a m) ≡ names h (hashes_from ds m (first + a))
+unfolding names hashes_from
+names_any h ds first a zero = refl
+names_any h ds first a (suc m) =
+    let e : suc (first + a) ≡ first + (a + 1) = omega arith in
+    rw (e, names_any h ds first (a + 1) m)
 
-  module _ (j : ℕ) where
-    step : j < m → names h (hashes_from ds (m - j) (first + j)) ≡ (same_list (hash_at ds (first + j)) h || names h (hashes_from ds (m - (j + 1)) (first + (j + 1))))
-    unfolding names hashes_from
-    step l =
-        let s : m - j ≡ suc (m - (j + 1)) = omega arith in
-        let e : suc (first + j) ≡ first + (j + 1) = omega arith in
-        rw (s, ← e)
-
-    pub names_hit : j < m → same_list (hash_at ds (first + j)) h ≡ true → names h (hashes_from ds (m - j) (first + j)) ≡ true
-    names_hit l t = step l ∙ rw t
-
-    pub names_next : j < m → same_list (hash_at ds (first + j)) h ≡ false → names h (hashes_from ds (m - j) (first + j)) ≡ names h (hashes_from ds (m - (j + 1)) (first + (j + 1)))
-    names_next l f = step l ∙ rw f
-
-    pub names_end : m ≤ j → names h (hashes_from ds (m - j) (first + j)) ≡ false
-    unfolding names hashes_from
-    names_end l = let z : m - j ≡ 0 = omega arith in rw z
+pub names_in : (h ds : List ℕ) (first m : ℕ) → list_any (λ j. same_list (hash_at ds (first + j)) h) (range_with_len 0 m) ≡ names h (hashes_from ds m first)
+names_in h ds first m = names_any h ds first 0 m ∙ ap (λ (x : ℕ). names h (hashes_from ds m x)) (add-zero first)
 
 -- ---- putting after
 
@@ -69,6 +58,12 @@ module _ {p : ℕ → Bool} {i r₀ : ℕ} {list₀ : List ℕ} {r : ℕ} {list 
   after_front a b =
       sym (take-take r₀ r list (omega (arith, at.counted)))
       ∙ (rw at.listed (take-append-le r₀ (take r₀ list₀) (pick p i) (omega (arith, length-take-le r₀ list₀ a)) ∙ take-take r₀ r₀ list₀ (omega arith)))
+
+  pub after_stays : (m : ℕ) → i < m → r₀ + tally p m ≤ length list₀ → take r₀ list ≡ take r₀ list₀
+  after_stays m l room =
+      let e : i + (m - i) ≡ m = omega arith in
+      let w : tally p i ≤ tally p m = subst (λ (x : ℕ). tally p i ≤ tally p x) e (tally_wider p i (m - i)) in
+      after_front (omega arith) (omega (arith, at.counted, at.list_length))
 
 -- ---- the listing of the dropped ones
 
@@ -156,3 +151,27 @@ valid_droppable cs list v l =
       small = valid_small v;
       room = omega (arith, valid_small v);
     }
+
+-- ---- laws that no proof needs any more
+
+module _ (h ds : List ℕ) (first m : ℕ) where
+  pub names_start : names h (hashes_from ds (m - 0) (first + 0)) ≡ names h (hashes_from ds m first)
+  names_start = rw (sub-zero, add-zero first)
+
+  module _ (j : ℕ) where
+    step : j < m → names h (hashes_from ds (m - j) (first + j)) ≡ (same_list (hash_at ds (first + j)) h || names h (hashes_from ds (m - (j + 1)) (first + (j + 1))))
+    unfolding names hashes_from
+    step l =
+        let s : m - j ≡ suc (m - (j + 1)) = omega arith in
+        let e : suc (first + j) ≡ first + (j + 1) = omega arith in
+        rw (s, ← e)
+
+    pub names_hit : j < m → same_list (hash_at ds (first + j)) h ≡ true → names h (hashes_from ds (m - j) (first + j)) ≡ true
+    names_hit l t = step l ∙ rw t
+
+    pub names_next : j < m → same_list (hash_at ds (first + j)) h ≡ false → names h (hashes_from ds (m - j) (first + j)) ≡ names h (hashes_from ds (m - (j + 1)) (first + (j + 1)))
+    names_next l f = step l ∙ rw f
+
+    pub names_end : m ≤ j → names h (hashes_from ds (m - j) (first + j)) ≡ false
+    unfolding names hashes_from
+    names_end l = let z : m - j ≡ 0 = omega arith in rw z

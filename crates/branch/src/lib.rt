@@ -1,7 +1,7 @@
 // Drops an actor's changes at or after a sequence, and all waiting ones that depend on them, out of a queue.
 #![tactic(auto)]
 
-ghost use Rattle.std.specs.Prelude.{◌≡◌, ◌&&◌, not, ℕ, ◌+◌, ◌*◌, ◌≤◌, ◌<◌, eqb, leb, length, take, get_or};
+ghost use Rattle.std.specs.Prelude.{◌≡◌, ◌&&◌, not, ℕ, ◌+◌, ◌*◌, ◌≤◌, ◌<◌, eqb, leb, length, take, get_or, Ok, Err};
 ghost use Rattle.paper.specs.Lists.{names, mem, tally};
 ghost use Rattle.paper.specs.Lists.{hash_at, hashes_from};
 ghost use Rattle.ready.specs.Tables.{dep_count, DepsHeld};
@@ -12,39 +12,22 @@ ghost use Rattle.waiting.specs.Taken.{TakenOut};
 use hash::same_at;
 use ready::put_if;
 use records::{close_up, is_listed};
-use waiting::valid;
-
-// What dropping a branch answers.
-#[derive(Clone, Copy)]
-pub enum BranchDropped {
-    Done,
-    NotValid,
-}
+use waiting::{QueueRefusal, check};
 
 // Is one of the m hashes of `deps` from hash `first` on the hash k of `hashes`?
 fn depends(hashes: &[u8], k: usize, deps: &[u8], first: usize, m: usize) -> bool
     requires { (32 * k + 32 ≤ length hashes.now) × (32 * (first + m) ≤ length deps.now) }
     ensures { result ≡ names (hash_at hashes.now k) (hashes_from deps.now m first) }
 {
-    let p = 32 * k;
-    let mut j = 0;
-    while j < m {
-        if same_at(deps, first + j, &hashes[p..p + 32]) {
-            return true;
-        }
-        j += 1;
-    }
-    false
+    let hash = &hashes[32 * k..32 * k + 32];
+    (0..m).any(|j| same_at(deps, first + j, hash))
 }
 
 // Is a the actor's key, and b at or after the sequence?
 fn on_branch(a: u64, b: u64, key: u64, from: u64) -> bool
     ensures { result ≡ (eqb a key && leb from b) }
 {
-    if a == key {
-        return from <= b;
-    }
-    false
+    a == key && from <= b
 }
 
 // Lists the actor's changes at or after the sequence.
@@ -53,20 +36,19 @@ fn list_branch(numbers: &[u64], n: usize, key: u64, from: u64, list: &mut [u32])
     ensures { PutAfter (on_branch numbers.now key from) n 0 list.old result list.new }
 {
     let mut r = 0;
-    let mut i = 0;
-    while i < n {
+    for i in 0..n {
         r = put_if(
             list,
             r,
             i as u32,
             on_branch(numbers[5 * i], numbers[5 * i + 1], key, from),
         );
-        i += 1;
     }
     r
 }
 
 // Does record i depend on record k, and is it none of the first r listed?
+#[tactic(auto, unfolding(crate::specs::Branch::depends_on))]
 fn new_child(
     hashes: &[u8],
     numbers: &[u64],
@@ -81,10 +63,7 @@ fn new_child(
     requires i_lt_n { (i < n) × (r ≤ length list.now) }
     ensures { result ≡ new_child hashes.now numbers.now deps.now k (take r list.now) i }
 {
-    if depends(hashes, k, deps, 32 * i, numbers[5 * i + 4] as usize) {
-        return !is_listed(list, r, i as u32);
-    }
-    false
+    depends(hashes, k, deps, 32 * i, numbers[5 * i + 4] as usize) && !is_listed(list, r, i as u32)
 }
 
 // Lists after the first r those that depend on record k and are not listed.
@@ -102,11 +81,9 @@ fn list_children(
     ensures { PutAfter (new_child hashes.now numbers.now deps.now k (take r list.old)) n r list.old result list.new }
 {
     let mut q = r;
-    let mut i = 0;
-    while i < n {
+    for i in 0..n {
         let yes = new_child(hashes, numbers, deps, n, k, list, r, i);
         q = put_if(list, q, i as u32, yes);
-        i += 1;
     }
     q
 }
@@ -126,6 +103,7 @@ fn list_dropped(
 {
     let own = list_branch(numbers, n, key, from, list);
     let mut r = own;
+    // The list grows while it is gone through: no range or iterator of it can be held.
     let mut c = 0;
     while c < r {
         let k = list[c] as usize;
@@ -156,6 +134,7 @@ pub fn drop_branch(
 
 // Drops the actor's changes at or after the sequence from a queue, and all waiting ones that depend on them, directly or through other waiting ones:
 // 1 if the queue is not valid, or 0.
+#[tactic(auto, unfolding(crate::specs::Branch::RemovedTo))]
 pub fn remove_actor_branch_from(
     hashes: &mut [u8],
     numbers: &mut [u64],
@@ -163,13 +142,11 @@ pub fn remove_actor_branch_from(
     count: &mut [u32],
     key: u64,
     from: u64,
-) -> BranchDropped
-    ensures held_or_not { HeldOrNot (StoreValid hashes.old numbers.old deps.old count.old) (result ≡ BranchDropped.Done) (result ≡ BranchDropped.NotValid) }
+) -> Result<(), QueueRefusal>
+    ensures held_or_not { HeldOrNot (StoreValid hashes.old numbers.old deps.old count.old) (result ≡ Ok tt) (result ≡ Err QueueRefusal.NotValid) }
     ensures removed_to { RemovedTo result hashes.old numbers.old deps.old count.old key from hashes.new numbers.new deps.new count.new }
 {
-    if !valid(hashes, numbers, deps, count) {
-        return BranchDropped::NotValid;
-    }
+    check(hashes, numbers, deps, count)?;
     drop_branch(hashes, numbers, deps, count, key, from);
-    BranchDropped::Done
+    Ok(())
 }

@@ -1,19 +1,11 @@
 -- What handing a batch over answers, and what it leaves. The batch's tables are bhs, bns, bds, bcs.
-use Rattle.std.specs.Prelude.{◌≡◌, ℕ, ◌+◌, ◌*◌, List, Bool, cond, ◌||◌, ltb, get_or, set}
+use Rattle.std.specs.Prelude.{◌≡◌, ℕ, ◌+◌, ◌*◌, List, Bool, cond, ◌||◌, ltb, get_or, set, ⊤, Result, Ok, Err}
 use Rattle.paper.specs.Lists.{some_below, hash_at}
-use Rattle.paper.specs.Numbers.{number, done, not_valid, already_waiting, no_queue_room}
 use Rattle.ready.specs.Tables.{known_in}
 use Rattle.records.specs.Records.{Filled}
 use Rattle.waiting.specs.Valid.{room, waiting, has_actor_seq_in, Same}
-use Rattle.queue.specs.declared.Handed.{Handed}
-use Rattle.queue.specs.declared.Handed.TheVariants.{Done, NotValid, Clash, Full}
-
--- the paper's numbers
-abbrev pub handed_number : Handed → ℕ
-handed_number Done = number done
-handed_number NotValid = number not_valid
-handed_number Clash = number already_waiting
-handed_number Full = number no_queue_room
+use Rattle.waiting.specs.declared.QueueRefusal.{QueueRefusal}
+use Rattle.waiting.specs.declared.QueueRefusal.TheVariants.{AlreadyWaiting, NoQueueRoom}
 
 -- record i of the batch has the hash, or the actor and sequence, of one of the first n of the queue
 unfoldable pub clash_at : List ℕ → List ℕ → ℕ → List ℕ → List ℕ → ℕ → Bool
@@ -24,8 +16,8 @@ unfoldable pub any_clash : List ℕ → List ℕ → ℕ → List ℕ → List �
 any_clash hs ns n bhs bns m = some_below (clash_at hs ns n bhs bns) m
 
 -- what handing a valid batch over to a valid queue answers: any clash first, then the room
-unfoldable pub handed_as : List ℕ → List ℕ → List ℕ → List ℕ → List ℕ → List ℕ → Handed
-handed_as hs ns cs bhs bns bcs = cond (any_clash hs ns (waiting cs) bhs bns (waiting bcs)) Clash (cond (ltb (room hs) (waiting cs + waiting bcs)) Full Done)
+unfoldable pub handed_as : List ℕ → List ℕ → List ℕ → List ℕ → List ℕ → List ℕ → Result ⊤ QueueRefusal
+handed_as hs ns cs bhs bns bcs = cond (any_clash hs ns (waiting cs) bhs bns (waiting bcs)) (Err AlreadyWaiting) (cond (ltb (room hs) (waiting cs + waiting bcs)) (Err NoQueueRoom) (Ok tt))
 
 -- the batch's records stand after the queue's, and the batch is empty
 pub record Appended (hs ns ds cs bhs bns bds bcs hs' ns' ds' cs' bcs' : List ℕ) : Type 0 where
@@ -39,8 +31,6 @@ pub record NotHanded (hs ns ds cs bcs hs' ns' ds' cs' bcs' : List ℕ) : Type 0 
   pub batch : bcs' ≡ bcs
 
 -- on 0 all are appended, on every other number nothing changed
-unfoldable pub HandedTo : Handed → List ℕ → List ℕ → List ℕ → List ℕ → List ℕ → List ℕ → List ℕ → List ℕ → List ℕ → List ℕ → List ℕ → List ℕ → List ℕ → Type 0
-HandedTo Done hs ns ds cs bhs bns bds bcs hs' ns' ds' cs' bcs' = Appended hs ns ds cs bhs bns bds bcs hs' ns' ds' cs' bcs'
-HandedTo NotValid hs ns ds cs bhs bns bds bcs hs' ns' ds' cs' bcs' = NotHanded hs ns ds cs bcs hs' ns' ds' cs' bcs'
-HandedTo Clash hs ns ds cs bhs bns bds bcs hs' ns' ds' cs' bcs' = NotHanded hs ns ds cs bcs hs' ns' ds' cs' bcs'
-HandedTo Full hs ns ds cs bhs bns bds bcs hs' ns' ds' cs' bcs' = NotHanded hs ns ds cs bcs hs' ns' ds' cs' bcs'
+unfoldable pub HandedTo : Result ⊤ QueueRefusal → List ℕ → List ℕ → List ℕ → List ℕ → List ℕ → List ℕ → List ℕ → List ℕ → List ℕ → List ℕ → List ℕ → List ℕ → List ℕ → Type 0
+HandedTo (Ok a) hs ns ds cs bhs bns bds bcs hs' ns' ds' cs' bcs' = Appended hs ns ds cs bhs bns bds bcs hs' ns' ds' cs' bcs'
+HandedTo (Err e) hs ns ds cs bhs bns bds bcs hs' ns' ds' cs' bcs' = NotHanded hs ns ds cs bcs hs' ns' ds' cs' bcs'

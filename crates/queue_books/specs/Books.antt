@@ -1,6 +1,6 @@
 -- One call that answers 0, over stores that are valid: they stay valid, and hold what the paper's books say. The answers and what they leave are those of the promises.
 -- Assumes nothing.
-use Rattle.std.specs.Prelude.{◌≡◌, refl, ◌⊎◌, true, false, cond, ltb}
+use Rattle.std.specs.Prelude.{◌≡◌, refl, ◌⊎◌, true, false, cond, ltb, ⊤, Result, Ok, Err}
 use Rattle.std.proofs.Common.{sym, ◌∙◌, subst, arith, ltb-false}
 use Rattle.std.proofs.Math.Path.{ap}
 use Prim.Native.Nat.{ℕ, zero, suc, ◌+◌, ◌-◌, ◌<◌, ◌≤◌}
@@ -16,19 +16,15 @@ use Rattle.paper.proofs.Ready.{order_rest}
 use Rattle.ready.specs.Tables.{queue_of, record_at, known_in}
 use Rattle.waiting.specs.Valid.{Store, GoodStore, room, waiting, StoreLaid, is_roomy, OpenedTo}
 use Rattle.waiting.specs.ValidLaws.{roomy_rooms}
-use Rattle.waiting.specs.declared.StoreOpened.TheVariants.{Done as Open}
-use Rattle.batch.specs.Push.{push_judged, PushedTo, pushed_number}
+use Rattle.waiting.specs.Refused.{queue_number}
+use Rattle.waiting.specs.RefusedLaws.{never_done, not_refused}
+use Rattle.waiting.specs.declared.QueueRefusal.{QueueRefusal}
+use Rattle.waiting.specs.declared.QueueRefusal.TheVariants.{ShortBuffer}
+use Rattle.batch.specs.Push.{push_judged, PushedTo}
 use Rattle.batch.specs.PushLaws.{done_fine}
-use Rattle.batch.specs.declared.Pushed.{Pushed}
-use Rattle.batch.specs.declared.Pushed.TheVariants.{Done, NotValid, Malformed, InBatch, Waits, TooMany, Full}
-use Rattle.queue.specs.Hand.{any_clash, handed_as, HandedTo, handed_number}
-use Rattle.queue.specs.declared.Handed.{Handed}
-use Rattle.queue.specs.declared.Handed.TheVariants.{Done as Over, NotValid as NotOver, Clash, Full as NoRoom}
-use Rattle.release.specs.Release.{ready_of, rest_of, released_as, GivenOut, released_number}
-use Rattle.release.specs.declared.Released.{Released}
-use Rattle.release.specs.declared.Released.TheVariants.{All, Short, NotValid as NotReleased}
+use Rattle.queue.specs.Hand.{any_clash, handed_as, HandedTo}
+use Rattle.release.specs.Release.{ready_of, rest_of, released_as, GivenOut}
 use Rattle.branch.specs.Branch.{kept_of, RemovedTo}
-use Rattle.branch.specs.declared.BranchDropped.TheVariants.{Done as Gone}
 use Rattle.paper.specs.Books.{changes_at}
 use Rattle.queue_books.specs.View.{records_of}
 use Rattle.queue_books.specs.Alike.{Alike, Low, order_alike, rest_alike, kept_alike, changes_alike}
@@ -50,50 +46,41 @@ recount s cs = record { hashes = s.hashes; numbers = s.numbers; deps = s.deps; c
 
 -- ---- opening
 
-pub open_done : {s : Store} {cs' : List ℕ} → StoreLaid s.hashes s.numbers s.deps s.count → OpenedTo Open s.count cs' → Holding (recount s cs') []
+pub open_done : {s : Store} {cs' : List ℕ} → StoreLaid s.hashes s.numbers s.deps s.count → OpenedTo (Ok tt) s.count cs' → Holding (recount s cs') []
 unfolding OpenedTo
 open_done {s} l e = record { valid = open_valid l e; waits = opened_list s.hashes s.numbers s.deps s.count l.one_count e }
 
 -- ---- pushing
 
-pub push_done : (h : List ℕ) (key seq top ops : ℕ) (needs : List ℕ) {b b' : Store} {l : List Waiting} → Holding b l → (a : Pushed)
-    → a ≡ push_judged b.hashes b.numbers b.count h key seq needs → pushed_number a ≡ number done
+pub push_done : (h : List ℕ) (key seq top ops : ℕ) (needs : List ℕ) {b b' : Store} {l : List Waiting} → Holding b l → (a : Result ⊤ QueueRefusal)
+    → a ≡ push_judged b.hashes b.numbers b.count h key seq needs → queue_number a ≡ number done
     → PushedTo a b.hashes b.numbers b.deps b.count h key seq top ops needs b'.hashes b'.numbers b'.deps b'.count
     → Holding b' (l ++ (waiting_change h key seq top ops needs ∷ []))
 unfolding PushedTo
-push_done h key seq top ops needs {b} s Done e n m =
+push_done h key seq top ops needs {b} s (Ok x) e n m =
     let f = done_fine b.hashes b.numbers b.count h key seq needs (sym e) in
     record {
       valid = pushed_valid s.valid f m;
       waits = pushed_list s.valid f m ∙ ap (λ (x : List Waiting). x ++ (waiting_change h key seq top ops needs ∷ [])) s.waits;
     }
-push_done h key seq top ops needs s NotValid e n m = absurd (omega arith)
-push_done h key seq top ops needs s Malformed e n m = absurd (omega arith)
-push_done h key seq top ops needs s InBatch e n m = absurd (omega arith)
-push_done h key seq top ops needs s Waits e n m = absurd (omega arith)
-push_done h key seq top ops needs s TooMany e n m = absurd (omega arith)
-push_done h key seq top ops needs s Full e n m = absurd (omega arith)
+push_done h key seq top ops needs s (Err r) e n m = absurd (never_done r n)
 
 -- ---- handing over
 
 -- a batch handed over did not clash, and there was room
-over_fine : (hs ns cs bhs bns bcs : List ℕ) → handed_as hs ns cs bhs bns bcs ≡ Over → (any_clash hs ns (waiting cs) bhs bns (waiting bcs) ≡ false) × (waiting cs + waiting bcs ≤ room hs)
+over_fine : (hs ns cs bhs bns bcs : List ℕ) → handed_as hs ns cs bhs bns bcs ≡ Ok tt → (any_clash hs ns (waiting cs) bhs bns (waiting bcs) ≡ false) × (waiting cs + waiting bcs ≤ room hs)
 unfolding handed_as
 over_fine hs ns cs bhs bns bcs e =
-    let x = told (any_clash hs ns (waiting cs) bhs bns (waiting bcs)) Clash _ (λ w. let z : ◌≡◌ {A = ℕ} 0 1 = cc in omega arith) e in
-    let y = told (ltb (room hs) (waiting cs + waiting bcs)) NoRoom _ (λ w. let z : ◌≡◌ {A = ℕ} 0 1 = cc in omega arith) x.1 in
+    let x = not_refused (any_clash hs ns (waiting cs) bhs bns (waiting bcs)) _ _ e in
+    let y = not_refused (ltb (room hs) (waiting cs + waiting bcs)) _ _ x.1 in
     (x.0, ltb-false (room hs) (waiting cs + waiting bcs) y.0)
-  where
-    told : (c : Bool) (x rest : Handed) → ((x ≡ Over) → ⊥) → cond c x rest ≡ Over → (c ≡ false) × (rest ≡ Over)
-    told true x rest bad e = absurd (bad e)
-    told false x rest bad e = (refl, e)
 
-pub hand_done : {q b q' : Store} {bcs' : List ℕ} {l m : List Waiting} → Holding q l → Holding b m → (a : Handed)
-    → a ≡ handed_as q.hashes q.numbers q.count b.hashes b.numbers b.count → handed_number a ≡ number done
+pub hand_done : {q b q' : Store} {bcs' : List ℕ} {l m : List Waiting} → Holding q l → Holding b m → (a : Result ⊤ QueueRefusal)
+    → a ≡ handed_as q.hashes q.numbers q.count b.hashes b.numbers b.count → queue_number a ≡ number done
     → HandedTo a q.hashes q.numbers q.deps q.count b.hashes b.numbers b.deps b.count q'.hashes q'.numbers q'.deps q'.count bcs'
     → Holding q' (l ++ m) × Holding (recount b bcs') []
 unfolding HandedTo
-hand_done {q} {b} s t Over e n m =
+hand_done {q} {b} s t (Ok x) e n m =
     let f = over_fine q.hashes q.numbers q.count b.hashes b.numbers b.count (sym e) in (
       record {
         valid = handed_valid s.valid t.valid f.0 f.1 m;
@@ -101,9 +88,7 @@ hand_done {q} {b} s t Over e n m =
       },
       record { valid = emptied_valid s.valid t.valid f.0 f.1 m; waits = emptied_list s.valid t.valid f.0 f.1 m },
     )
-hand_done s t NotOver e n m = absurd (omega arith)
-hand_done s t Clash e n m = absurd (omega arith)
-hand_done s t NoRoom e n m = absurd (omega arith)
+hand_done s t (Err r) e n m = absurd (never_done r n)
 
 -- ---- releasing
 
@@ -124,15 +109,14 @@ listed_alike f q low same e =
     (changes_alike (tabled q) (of_list (waiting_in q)) al (f (tabled q)) low ∙ ap (changes_at (of_list (waiting_in q))) (same al))
 
 -- a release that answers 0 had room for all
-pub all_of : (l th tn td : List ℕ) (a : Released) → a ≡ released_as l th tn td → released_number a ≡ number done → (a ≡ All (length l)) × (is_roomy (length th) (length tn) (length td) (length l) ≡ true)
+pub all_of : (l th tn td : List ℕ) (a : Result ℕ QueueRefusal) → a ≡ released_as l th tn td → queue_number a ≡ number done → (a ≡ Ok (length l)) × (is_roomy (length th) (length tn) (length td) (length l) ≡ true)
 unfolding released_as
-all_of l th tn td (All m) e z = roomy (is_roomy (length th) (length tn) (length td) (length l)) m (length l) e
+all_of l th tn td (Ok m) e z = roomy (is_roomy (length th) (length tn) (length td) (length l)) m (length l) e
   where
-    roomy : (b : Bool) (m n : ℕ) → All m ≡ cond b (All n) Short → (All m ≡ All n) × (b ≡ true)
+    roomy : (b : Bool) (m n : ℕ) → ◌≡◌ {A = Result ℕ QueueRefusal} (Ok m) (cond b (Ok n) (Err ShortBuffer)) → (◌≡◌ {A = Result ℕ QueueRefusal} (Ok m) (Ok n)) × (b ≡ true)
     roomy true m n e = (e, refl)
     roomy false m n e = let z : ◌≡◌ {A = ℕ} 0 1 = cc in absurd (omega arith)
-all_of l th tn td Short e z = absurd (omega arith)
-all_of l th tn td NotReleased e z = absurd (omega arith)
+all_of l th tn td (Err r) e z = absurd (never_done r z)
 
 -- the numbers below n are n
 tally_whole : (n : ℕ) → tally (λ i. true) n ≡ n
@@ -181,7 +165,7 @@ module _ (gs : List ℕ) (n : ℕ) {q q' : Store} {th tn td th' tn' td' : List �
 -- ---- dropping
 
 pub drop_done : (key from : ℕ) {q q' : Store} {l : List Waiting} → Holding q l
-    → RemovedTo Gone q.hashes q.numbers q.deps q.count key from q'.hashes q'.numbers q'.deps q'.count
+    → RemovedTo (Ok tt) q.hashes q.numbers q.deps q.count key from q'.hashes q'.numbers q'.deps q'.count
     → Holding q' (changes_at (of_list l) (kept (of_list l) key from))
 unfolding RemovedTo kept_of kept
 drop_done key from {q} s m =

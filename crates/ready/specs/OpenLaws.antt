@@ -1,7 +1,8 @@
 -- Laws of what is unmet, and of counting along a list of hashes.
 use Rattle.std.proofs.Math.Path.{◌≡◌, sym, ap}
-use Rattle.std.specs.Prelude.{refl, ℕ, suc, ◌+◌, ◌-◌, ◌<◌, ◌≤◌, Bool, true, false, ◌||◌, eqb, length, take, get_or}
-use Rattle.std.proofs.Common.{ap₂, ◌∙◌, add-zero, zero-add, arith, take-suc, ne_eqb}
+use Rattle.std.specs.Int.{from_bool}
+use Rattle.std.specs.Prelude.{refl, ℕ, zero, suc, ◌+◌, ◌-◌, ◌*◌, ◌<◌, ◌≤◌, Bool, true, false, ◌||◌, eqb, length, take, drop, get_or}
+use Rattle.std.proofs.Common.{ap₂, ◌∙◌, add-zero, zero-add, arith, take-suc, take-take, ne_eqb}
 use Rattle.std.proofs.Math.Nat.{sub-zero}
 use mathlib.Core.List.{List, [], ◌∷◌}
 use Rattle.std.proofs.Math.Bool.{not, cond}
@@ -11,7 +12,14 @@ use Rattle.paper.proofs.Bools.{by_bool}
 use Rattle.paper.proofs.Hashes.{same→eq}
 use Rattle.paper.proofs.Ready.{among_append}
 use Rattle.paper.specs.Lists.{hash_at, hashes_from}
+use Rattle.hash.specs.Hash.{find_hash, find_from, same_hash}
+use Rattle.ready.specs.Tables.{known_in}
 use Rattle.ready.specs.Open.{unmet}
+
+-- a bool as a number
+pub bit_of : (b : Bool) → from_bool b ≡ cond b 1 0
+bit_of true = refl
+bit_of false = refl
 
 count_hashes : (p : List ℕ → Bool) (ds : List ℕ) (k f : ℕ) → count p (hashes_from ds (suc k) f) ≡ cond (p (hash_at ds f)) 1 0 + count p (hashes_from ds k (suc f))
 unfolding count hashes_from
@@ -59,6 +67,26 @@ unfolding every count
 every_none p [] = refl
 every_none p (d ∷ ds) =
     by_bool (p d) (λ t. rw (t, zero-add) (every_none p ds)) (λ f. rw f (sym (ne_eqb (1 + count (λ e. not (p e)) ds) 0 (λ e. omega arith))))
+
+-- those that pass, and those that do not, are all
+pub counted_both : (p : List ℕ → Bool) (ds : List ℕ) (m f : ℕ) → count (λ d. not (p d)) (hashes_from ds m f) + count p (hashes_from ds m f) ≡ m
+unfolding count hashes_from
+counted_both p ds zero f = refl
+counted_both p ds (suc m) f =
+    by_bool (p (hash_at ds f)) (λ t. rw t (omega (arith, counted_both p ds m (suc f)))) (λ e. rw e (omega (arith, counted_both p ds m (suc f))))
+
+-- ---- a table of one hash
+
+own_hash : (hs : List ℕ) (k : ℕ) → hash_at (hash_at hs k) 0 ≡ hash_at hs k
+unfolding hash_at
+own_hash hs k = take-take 32 32 (drop (32 * k) hs) (omega arith)
+
+one_known : (hs : List ℕ) (k : ℕ) (d : List ℕ) → known_in (hash_at hs k) 1 d ≡ same_list (hash_at hs k) d
+unfolding known_in find_hash find_from same_hash
+one_known hs k d = by_bool (same_list (hash_at hs k) d) (λ t. rw (own_hash hs k, t)) (λ f. rw (own_hash hs k, f))
+
+pub count_one : (hs : List ℕ) (k : ℕ) (ds : List (List ℕ)) → count (known_in (hash_at hs k) 1) ds ≡ count (same_list (hash_at hs k)) ds
+count_one hs k ds = count_ext (known_in (hash_at hs k) 1) (same_list (hash_at hs k)) ds (one_known hs k)
 
 -- ---- unmet
 

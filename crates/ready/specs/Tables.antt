@@ -1,11 +1,9 @@
 -- The lent tables of a queue or a batch as the paper's queue: hashes 32 bytes each; numbers 5 each, actor key, sequence, max op, op count, number of
 -- dependencies; deps 32 hashes each, of which the first are used.
-use Rattle.std.specs.Prelude.{ℕ, ◌+◌, ◌*◌, ◌<◌, ◌≤◌, List, Bool, true, false, not, length, get_or}
+use Rattle.std.specs.Prelude.{ℕ, ◌+◌, ◌*◌, ◌<◌, ◌≤◌, List, Bool, true, false, not, length, get_or, Some, None, Option}
 use Rattle.paper.specs.Queue.{Waiting, Queue}
 use Rattle.paper.specs.Lists.{hash_at, hashes_from}
 use Rattle.hash.specs.Hash.{find_hash}
-use Rattle.hash.specs.declared.Found.{Found}
-use Rattle.hash.specs.declared.Found.TheVariants.{At, Unknown}
 
 -- how many dependencies record i has
 abbrev pub dep_count : List ℕ → ℕ → ℕ
@@ -28,9 +26,9 @@ abbrev pub queue_of : List ℕ → List ℕ → List ℕ → ℕ → Queue
 queue_of hs ns ds n = record { size = n; at = record_at hs ns ds }
 
 -- a search found something
-abbrev pub is_at : Found → Bool
-is_at (At k) = true
-is_at Unknown = false
+abbrev pub is_at : Option ℕ → Bool
+is_at (Some k) = true
+is_at None = false
 
 -- h is one of the first m hashes of the graph's table
 unfoldable pub known_in : List ℕ → ℕ → List ℕ → Bool

@@ -8,54 +8,34 @@ ghost use Rattle.ready.specs.Tables.{known_in, none_of, queue_of, DepsHeld};
 ghost use Rattle.ready.specs.Open.{unknown_of, hits_of, last_hit, freed_by, Begun, Passed, Freeable};
 ghost use Rattle.ready.specs.Ordering.{Askable, Turnable, Turned, Ordered};
 
-use hash::Found;
-
-// 1 for yes, 0 for no.
-fn bit(yes: bool) -> u32
-    ensures { (result ≡ cond yes 1 0) × (result ≤ 1) }
-{
-    if yes { 1 } else { 0 }
-}
-
 // Is the hash one of the first n of the graph's table?
 pub fn is_known(graph: &[u8], n: usize, hash: &[u8]) -> bool
     requires { (32 * n ≤ length graph.now) × (length hash.now ≡ 32) }
     ensures { result ≡ known_in graph.now n hash.now }
 {
-    let Found::At(k) = hash::find(graph, n, hash) else {
-        return false;
-    };
-    true
+    hash::find(graph, n, hash).is_some()
 }
 
-// How many of the m hashes of `deps` from hash `first` on are none of the graph's first n.
+// How many of the m hashes of `deps` from hash `first` on are one of the first n of `table`.
+fn count_known(table: &[u8], n: usize, deps: &[u8], first: usize, m: usize) -> u32
+    requires { (32 * n ≤ length table.now) × (32 * (first + m) ≤ length deps.now) × (m ≤ 32) }
+    ensures value { result ≡ count (known_in table.now n) (hashes_from deps.now m first) }
+    ensures most { result ≤ m }
+{
+    let mut total = 0;
+    for j in 0..m {
+        let p = 32 * (first + j);
+        total += u32::from(is_known(table, n, &deps[p..p + 32]));
+    }
+    total
+}
+
+// How many of them are none of the graph's first n.
 fn count_unknown(graph: &[u8], n: usize, deps: &[u8], first: usize, m: usize) -> u32
     requires { (32 * n ≤ length graph.now) × (32 * (first + m) ≤ length deps.now) × (m ≤ 32) }
     ensures { result ≡ count (none_of graph.now n) (hashes_from deps.now m first) }
 {
-    let mut total: u32 = 0;
-    let mut j = 0;
-    while j < m {
-        let p = 32 * (first + j);
-        total += bit(!is_known(graph, n, &deps[p..p + 32]));
-        j += 1;
-    }
-    total
-}
-
-// How many of the m hashes of `deps` from hash `first` on are hash k of `hashes`.
-fn count_same(hashes: &[u8], k: usize, deps: &[u8], first: usize, m: usize) -> u32
-    requires { (32 * k + 32 ≤ length hashes.now) × (32 * (first + m) ≤ length deps.now) × (m ≤ 32) }
-    ensures { result ≡ count (same_list (hash_at hashes.now k)) (hashes_from deps.now m first) }
-{
-    let mut total: u32 = 0;
-    let mut j = 0;
-    while j < m {
-        let p = 32 * (first + j);
-        total += bit(hash::same_at(hashes, k, &deps[p..p + 32]));
-        j += 1;
-    }
-    total
+    m as u32 - count_known(graph, n, deps, first, m)
 }
 
 // Puts i at the end of the list of `listed` positions, if so told; answers how many are listed then.
@@ -71,7 +51,7 @@ pub fn put_if(order: &mut [u32], listed: usize, i: u32, yes: bool) -> usize
     listed
 }
 
-// The same as `count_same`, where it is known that there are at most `due`.
+// How many of the m hashes of `deps` from hash `first` on are hash k of `hashes`, where it is known that there are at most `due`.
 fn hits(due: u32, hashes: &[u8], k: usize, deps: &[u8], first: usize, m: usize) -> u32
     requires k_in_bounds { (32 * k + 32 ≤ length hashes.now) × (32 * (first + m) ≤ length deps.now) × (m ≤ 32) }
     requires first_bound { count (same_list (hash_at hashes.now k)) (hashes_from deps.now m first) ≤ due }
@@ -80,17 +60,15 @@ fn hits(due: u32, hashes: &[u8], k: usize, deps: &[u8], first: usize, m: usize) 
     if due == 0 {
         return 0;
     }
-    count_same(hashes, k, deps, first, m)
+    let p = 32 * k;
+    count_known(&hashes[p..p + 32], 1, deps, first, m)
 }
 
 // Are `hit` all of the `due` ones, and some?
 fn is_last(due: u32, hit: u32) -> bool
     ensures { result ≡ last_hit due hit }
 {
-    if due == 0 {
-        return false;
-    }
-    due == hit
+    due != 0 && due == hit
 }
 
 // Counts for each waiting change what is unknown, into `left`, and lists those with nothing unknown.
@@ -108,12 +86,10 @@ fn list_first(
     ensures { Begun (unknown_of graph.now n numbers.now deps.now) count left.old order.old left.new result order.new }
 {
     let mut listed = 0;
-    let mut i = 0;
-    while i < count {
+    for i in 0..count {
         let due = count_unknown(graph, n, deps, 32 * i, numbers[5 * i + 4] as usize);
         left[i] = due;
         listed = put_if(order, listed, i as u32, due == 0);
-        i += 1;
     }
     listed
 }
@@ -133,13 +109,11 @@ fn list_freed(
     ensures { Passed (hits_of hashes.now numbers.now deps.now k) count left.old from order.old left.new result order.new }
 {
     let mut listed = from;
-    let mut i = 0;
-    while i < count {
+    for i in 0..count {
         let due = left[i];
         let hit = hits(due, hashes, k, deps, 32 * i, numbers[5 * i + 4] as usize);
         left[i] = due - hit;
         listed = put_if(order, listed, i as u32, is_last(due, hit));
-        i += 1;
     }
     listed
 }
@@ -184,6 +158,7 @@ pub fn ready_order(
 {
     let mut left = [0u32; 256];
     let mut listed = list_first(graph, n, numbers, deps, count, &mut left, order);
+    // The list grows while it is gone through: no range or iterator of it can be held.
     let mut c = 0;
     while c < listed {
         listed = list_next(

@@ -1,5 +1,5 @@
 -- Laws of a release.
-use Rattle.std.specs.Prelude.{◌≡◌, ℕ, ◌*◌, ◌<◌, ◌≤◌, true, false, length, take, get_or}
+use Rattle.std.specs.Prelude.{◌≡◌, ℕ, ◌*◌, ◌<◌, ◌≤◌, true, false, length, take, get_or, Ok, Err}
 use Rattle.std.proofs.Common.{sym, ◌∙◌, subst, arith, get_or-take}
 use Rattle.std.proofs.Math.Path.{ap}
 use mathlib.Core.List.{List}
@@ -16,15 +16,15 @@ use Rattle.waiting.specs.Valid.{waiting, StoreValid, is_roomy}
 use Rattle.waiting.specs.ValidLaws.{valid_rooms, valid_small}
 use Rattle.waiting.specs.Taken.{TakenOut}
 use Rattle.release.specs.Release.{ready_of, rest_of, released_as, GivenOut}
-use Rattle.release.specs.declared.Released.TheVariants.{All, Short}
+use Rattle.waiting.specs.declared.QueueRefusal.TheVariants.{ShortBuffer}
 
 -- what the test of room says of the answer
 module _ (l th tn td : List ℕ) (r : ℕ) (e : r ≡ length l) where
-  pub released_all : is_roomy (length th) (length tn) (length td) r ≡ true → All r ≡ released_as l th tn td
+  pub released_all : is_roomy (length th) (length tn) (length td) r ≡ true → Ok r ≡ released_as l th tn td
   unfolding released_as
   released_all t = rw (← e, t)
 
-  pub released_short : is_roomy (length th) (length tn) (length td) r ≡ false → Short ≡ released_as l th tn td
+  pub released_short : is_roomy (length th) (length tn) (length td) r ≡ false → Err ShortBuffer ≡ released_as l th tn td
   unfolding released_as
   released_short f = rw (← e, f)
 

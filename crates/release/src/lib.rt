@@ -1,7 +1,7 @@
 // Releasing the ready ones of a queue, against the hashes that a graph knows.
 #![tactic(auto)]
 
-ghost use Rattle.std.specs.Prelude.{◌≡◌, ℕ, ◌+◌, ◌*◌, ◌≤◌, ◌<◌, length, get_or};
+ghost use Rattle.std.specs.Prelude.{◌≡◌, ℕ, ◌+◌, ◌*◌, ◌≤◌, ◌<◌, length, get_or, Err};
 ghost use Rattle.paper.specs.Lists.{pick};
 ghost use Rattle.records.specs.Records.{Rooms, Listable, Filled, place_of, unlisted};
 ghost use Rattle.waiting.specs.Valid.{StoreValid, HeldOrNot, waiting};
@@ -10,15 +10,7 @@ ghost use Rattle.release.specs.Release.{Lent, ready_of, released_as, ReleasedTo}
 
 use ready::ready_order;
 use records::{close_up, copy_list};
-use waiting::{roomy, valid};
-
-// What a release answers: how many it gives out, or that the answer tables are too short.
-#[derive(Clone, Copy)]
-pub enum Released {
-    All(usize),
-    Short,
-    NotValid,
-}
+use waiting::{QueueRefusal, check, roomy};
 
 // Gives out the records at the first r positions of `order`, and closes the queue up.
 fn give_out(
@@ -45,6 +37,7 @@ fn give_out(
 }
 
 // Releases the ready ones of a valid queue, against the graph's first `known` hashes, in ready order into the other tables.
+#[tactic(auto, unfolding(crate::specs::Release::ReleasedTo))]
 pub fn release_ready(
     graph: &[u8],
     known: usize,
@@ -55,7 +48,7 @@ pub fn release_ready(
     thashes: &mut [u8],
     tnumbers: &mut [u64],
     tdeps: &mut [u8],
-) -> Released
+) -> Result<usize, QueueRefusal>
     requires known_in_bounds { 32 * known ≤ length graph.now }
     requires store_valid { StoreValid hashes.old numbers.old deps.old count.old }
     ensures value { result ≡ released_as (ready_of graph.now known hashes.old numbers.old deps.old count.old) thashes.old tnumbers.old tdeps.old }
@@ -64,17 +57,18 @@ pub fn release_ready(
     let n = count[0] as usize;
     let mut order = [0u32; 256];
     let r = ready_order(graph, known, hashes, numbers, deps, n, &mut order);
-    if roomy(thashes.len(), tnumbers.len(), tdeps.len(), r) {
-        give_out(
-            hashes, numbers, deps, count, &order, r, thashes, tnumbers, tdeps,
-        );
-        return Released::All(r);
+    if !roomy(thashes.len(), tnumbers.len(), tdeps.len(), r) {
+        return Err(QueueRefusal::ShortBuffer);
     }
-    Released::Short
+    give_out(
+        hashes, numbers, deps, count, &order, r, thashes, tnumbers, tdeps,
+    );
+    Ok(r)
 }
 
 // Releases the ready ones of a queue: 1 if the queue is not valid or `graph` has fewer than `known` hashes, 15 if the answer tables cannot hold
 // all of them whole, or 0. Every number but 0 changes nothing.
+#[tactic(auto, unfolding(crate::specs::Release::ReleasedTo))]
 pub fn release(
     graph: &[u8],
     known: usize,
@@ -85,16 +79,14 @@ pub fn release(
     thashes: &mut [u8],
     tnumbers: &mut [u64],
     tdeps: &mut [u8],
-) -> Released
-    ensures held_or_not { HeldOrNot (Lent graph.now known hashes.old numbers.old deps.old count.old) (result ≡ released_as (ready_of graph.now known hashes.old numbers.old deps.old count.old) thashes.old tnumbers.old tdeps.old) (result ≡ Released.NotValid) }
+) -> Result<usize, QueueRefusal>
+    ensures held_or_not { HeldOrNot (Lent graph.now known hashes.old numbers.old deps.old count.old) (result ≡ released_as (ready_of graph.now known hashes.old numbers.old deps.old count.old) thashes.old tnumbers.old tdeps.old) (result ≡ Err QueueRefusal.NotValid) }
     ensures released_to { ReleasedTo result graph.now known hashes.old numbers.old deps.old count.old thashes.old tnumbers.old tdeps.old hashes.new numbers.new deps.new count.new thashes.new tnumbers.new tdeps.new }
 {
     if graph.len() / 32 < known {
-        return Released::NotValid;
+        return Err(QueueRefusal::NotValid);
     }
-    if !valid(hashes, numbers, deps, count) {
-        return Released::NotValid;
-    }
+    check(hashes, numbers, deps, count)?;
     release_ready(
         graph, known, hashes, numbers, deps, count, thashes, tnumbers, tdeps,
     )

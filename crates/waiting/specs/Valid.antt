@@ -1,12 +1,10 @@
 -- A valid queue or batch: what its lent tables must be. What opening and asking for the room answer.
-use Rattle.std.specs.Prelude.{◌≡◌, ◌⊎◌, ℕ, ◌+◌, ◌*◌, ◌/◌, ◌<◌, ◌≤◌, List, Bool, ◌&&◌, eqb, leb, length, get_or, set}
+use Rattle.std.specs.Prelude.{◌≡◌, ◌⊎◌, ℕ, ◌+◌, ◌*◌, ◌/◌, ◌<◌, ◌≤◌, List, Bool, ◌&&◌, eqb, leb, length, get_or, set, ⊤, Result, Ok, Err}
 use Rattle.paper.specs.Lists.{some_below, hash_at}
-use Rattle.paper.specs.Numbers.{number, done, not_valid}
 use Rattle.paper.specs.Queue.{Distinct}
 use Rattle.ready.specs.Tables.{queue_of}
 use Rattle.records.specs.Records.{Few}
-use Rattle.waiting.specs.declared.StoreOpened.{StoreOpened}
-use Rattle.waiting.specs.declared.StoreOpened.TheVariants.{Done, NotValid}
+use Rattle.waiting.specs.declared.QueueRefusal.{QueueRefusal}
 
 -- the lent tables of a queue or a batch
 pub record Store : Type 0 where
@@ -75,12 +73,7 @@ pub record Same (hs ns ds cs hs' ns' ds' cs' : List ℕ) : Type 0 where
 
 -- ---- opening
 
--- the paper's number
-abbrev pub store_opened_number : StoreOpened → ℕ
-store_opened_number Done = number done
-store_opened_number NotValid = number not_valid
-
 -- the count is 0, or it is as it was
-unfoldable pub OpenedTo : StoreOpened → List ℕ → List ℕ → Type 0
-OpenedTo Done cs cs' = cs' ≡ set cs 0 0
-OpenedTo NotValid cs cs' = cs' ≡ cs
+unfoldable pub OpenedTo : Result ⊤ QueueRefusal → List ℕ → List ℕ → Type 0
+OpenedTo (Ok a) cs cs' = cs' ≡ set cs 0 0
+OpenedTo (Err e) cs cs' = cs' ≡ cs

@@ -1,0 +1,9 @@
+-- The records so far are filled in.
+-- Assumes nothing.
+use Rattle.records.specs.Records.{place_of, SameLengths, Filled}
+use Rattle.records.proofs.copy_list.Given as goal
+
+abbrev pub invariant-loop-p : goal.invariant-loop-p
+invariant-loop-p l =
+    SameLengths l.initial.thashes l.initial.tnumbers l.initial.tdeps l.thashes l.tnumbers l.tdeps
+    × Filled l.hashes l.numbers l.deps (place_of l.order) 0 l.p l.initial.thashes l.initial.tnumbers l.initial.tdeps l.thashes l.tnumbers l.tdeps
