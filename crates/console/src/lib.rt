@@ -26,7 +26,7 @@ fn tell<W: Write>(input: &[u8], answer: &mut [u8], to: &mut W)
     requires { length answer.old ≡ 65536 }
 {
     let n = respond(input, answer);
-    if let Err(_) = to.write_all(&answer[..n]) {}
+    let _ = to.write_all(&answer[..n]);
 }
 
 // Reads until the buffer is full, the input ends or a read fails, and returns how many bytes stand at its beginning.
@@ -34,14 +34,12 @@ fn read_full<R: Read>(from: &mut R, buf: &mut [u8]) -> usize
     ensures { result ≤ length buf.new }
 {
     let mut done = 0;
+    // A `while`: each read tells how far it came.
     while done < buf.len() {
-        let Ok(n) = from.read(&mut buf[done..]) else {
-            break;
-        };
-        if n == 0 {
-            break;
+        match from.read(&mut buf[done..]) {
+            Ok(0) | Err(_) => break,
+            Ok(n) => done += n,
         }
-        done += n;
     }
     done
 }

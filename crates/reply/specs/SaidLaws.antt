@@ -1,6 +1,6 @@
 -- A line written in three parts, one after the other.
 -- Assumes nothing.
-use Rattle.std.specs.Prelude.{◌≡◌, List, [], ◌∷◌, ◌++◌, ℕ, ◌+◌, ◌<◌, ◌≤◌, length}
+use Rattle.std.specs.Prelude.{◌≡◌, List, [], ◌∷◌, ◌++◌, ℕ, ◌+◌, ◌<◌, ◌≤◌, length, Option, Some, None}
 use Rattle.std.proofs.Math.Path.{refl}
 use Rattle.std.proofs.Common.{ap, ◌∙◌, arith, length-append}
 use Rattle.std.proofs.lemmas.Bool.{lt-leb}
@@ -11,28 +11,26 @@ use Rattle.paper.specs.Command.{heads_word, clock_word, missing_word, owner_word
 use Rattle.paper.specs.Session.{answer_line, bad_text}
 use Rattle.print.specs.Print.{put_answer, put_buffer, Written}
 use Rattle.print.specs.ThenLaws.{fitted, not_fitted, then_next, then_full}
-use Rattle.print.specs.declared.Put.{Put}
-use Rattle.print.specs.declared.Put.TheVariants.{Next, Full}
 use Rattle.reply.specs.Said.{Said}
 
-written_size : (bs : List ℕ) (at : ℕ) (r : Put) (out₀ out₁ : List ℕ) → Written bs at r out₀ out₁ → length out₁ ≡ length out₀
+written_size : (bs : List ℕ) (at : ℕ) (r : Option ℕ) (out₀ out₁ : List ℕ) → Written bs at r out₀ out₁ → length out₁ ≡ length out₀
 unfolding put_buffer put_answer
-written_size bs at (Next p) out₀ out₁ w = let f = fitted bs at p out₀ out₁ w in ap length f.is ∙ over_length out₀ at bs f.fits
-written_size bs at Full out₀ out₁ w =
+written_size bs at (Some p) out₀ out₁ w = let f = fitted bs at p out₀ out₁ w in ap length f.is ∙ over_length out₀ at bs f.fits
+written_size bs at None out₀ out₁ w =
     let f = not_fitted bs at out₀ out₁ w in
     let e : out₁ ≡ out₀ = w.buffer ∙ rw (lt-leb _ _ f) in
     ap length e
 
 -- a text written at once
-pub said_written : (bs : List ℕ) (at : ℕ) (r : Put) (out₀ out₁ : List ℕ) → Written bs at r out₀ out₁ → Said bs at r out₀ out₁
-said_written bs at (Next p) out₀ out₁ w = record { answer = w.answer; buffer = λ q e. (fitted bs at p out₀ out₁ w).is; size = written_size bs at (Next p) out₀ out₁ w }
-said_written bs at Full out₀ out₁ w = record { answer = w.answer; buffer = λ q e. let z : ◌≡◌ {A = ℕ} 0 1 = cc in absurd (omega arith); size = written_size bs at Full out₀ out₁ w }
+pub said_written : (bs : List ℕ) (at : ℕ) (r : Option ℕ) (out₀ out₁ : List ℕ) → Written bs at r out₀ out₁ → Said bs at r out₀ out₁
+said_written bs at (Some p) out₀ out₁ w = record { answer = w.answer; buffer = λ q e. (fitted bs at p out₀ out₁ w).is; size = written_size bs at (Some p) out₀ out₁ w }
+said_written bs at None out₀ out₁ w = record { answer = w.answer; buffer = λ q e. cc; size = written_size bs at None out₀ out₁ w }
 
 -- what does not fit
-full : (text : List ℕ) (at : ℕ) (out₀ out₁ : List ℕ) → Full ≡ put_answer text at (length out₀) → length out₁ ≡ length out₀ → Said text at Full out₀ out₁
-full text at out₀ out₁ a s = record { answer = a; buffer = λ q e. let z : ◌≡◌ {A = ℕ} 0 1 = cc in absurd (omega arith); size = s }
+full : (text : List ℕ) (at : ℕ) (out₀ out₁ : List ℕ) → None ≡ put_answer text at (length out₀) → length out₁ ≡ length out₀ → Said text at None out₀ out₁
+full text at out₀ out₁ a s = record { answer = a; buffer = λ q e. cc; size = s }
 
-too_long : (text : List ℕ) (at room : ℕ) → room < at + length text → Full ≡ put_answer text at room
+too_long : (text : List ℕ) (at room : ℕ) → room < at + length text → None ≡ put_answer text at room
 unfolding put_answer
 too_long text at room l = rw (lt-leb _ _ l)
 
@@ -44,36 +42,36 @@ module _ (text a b c : List ℕ) (whole : Thrice text a b c) (at : ℕ) (out₀ 
   are : text ≡ (a ++ b) ++ c
   are = whole.are
 
-  pub first_full : Written a at Full out₀ out₁ → Said text at Full out₀ out₁
+  pub first_full : Written a at None out₀ out₁ → Said text at None out₀ out₁
   first_full w =
       let l = not_fitted a at out₀ out₁ w in
       let n = length-append (a ++ b) c in
       let m = length-append a b in
-      full text at out₀ out₁ (too_long text at (length out₀) (omega (arith, ap length are))) (written_size a at Full out₀ out₁ w)
+      full text at out₀ out₁ (too_long text at (length out₀) (omega (arith, ap length are))) (written_size a at None out₀ out₁ w)
 
-  module _ (p : ℕ) (first : Written a at (Next p) out₀ out₁) (out₂ : List ℕ) where
-    pub second_full : Written b p Full out₁ out₂ → Said text at Full out₀ out₂
+  module _ (p : ℕ) (first : Written a at (Some p) out₀ out₁) (out₂ : List ℕ) where
+    pub second_full : Written b p None out₁ out₂ → Said text at None out₀ out₂
     second_full w =
         let f = fitted a at p out₀ out₁ first in
         let l = not_fitted b p out₁ out₂ w in
-        let s = written_size a at (Next p) out₀ out₁ first in
+        let s = written_size a at (Some p) out₀ out₁ first in
         let n = length-append (a ++ b) c in
         let m = length-append a b in
-        full text at out₀ out₂ (too_long text at (length out₀) (omega (arith, ap length are, f.place))) (written_size b p Full out₁ out₂ w ∙ s)
+        full text at out₀ out₂ (too_long text at (length out₀) (omega (arith, ap length are, f.place))) (written_size b p None out₁ out₂ w ∙ s)
 
-    module _ (q : ℕ) (second : Written b p (Next q) out₁ out₂) (out₃ : List ℕ) where
-      both : Written (a ++ b) at (Next q) out₀ out₂
+    module _ (q : ℕ) (second : Written b p (Some q) out₁ out₂) (out₃ : List ℕ) where
+      both : Written (a ++ b) at (Some q) out₀ out₂
       both = then_next a b at p out₀ out₁ out₂ first q second
 
-      pub third : (r : Put) → Written c q r out₂ out₃ → Said text at r out₀ out₃
-      third (Next z) w = rw are (said_written ((a ++ b) ++ c) at (Next z) out₀ out₃ (then_next (a ++ b) c at q out₀ out₂ out₃ both z w))
-      third Full w =
+      pub third : (r : Option ℕ) → Written c q r out₂ out₃ → Said text at r out₀ out₃
+      third (Some z) w = rw are (said_written ((a ++ b) ++ c) at (Some z) out₀ out₃ (then_next (a ++ b) c at q out₀ out₂ out₃ both z w))
+      third None w =
           full text at out₀ out₃ (rw are (then_full (a ++ b) c at q out₀ out₂ out₃ both w))
-          (written_size c q Full out₂ out₃ w ∙ written_size (a ++ b) at (Next q) out₀ out₂ both)
+          (written_size c q None out₂ out₃ w ∙ written_size (a ++ b) at (Some q) out₀ out₂ both)
 
 -- the place past a text lies in the buffer
-pub next_room : (bs : List ℕ) (at p : ℕ) (out₀ out₁ : List ℕ) → Written bs at (Next p) out₀ out₁ → p ≤ length out₁
-next_room bs at p out₀ out₁ w = let f = fitted bs at p out₀ out₁ w in omega (arith, f.place, f.fits, written_size bs at (Next p) out₀ out₁ w)
+pub next_room : (bs : List ℕ) (at p : ℕ) (out₀ out₁ : List ℕ) → Written bs at (Some p) out₀ out₁ → p ≤ length out₁
+next_room bs at p out₀ out₁ w = let f = fitted bs at p out₀ out₁ w in omega (arith, f.place, f.fits, written_size bs at (Some p) out₀ out₁ w)
 
 -- the parts of each line
 pub bad_parts : (n : ℕ) → Thrice (bad_text n) (98 ∷ 97 ∷ 100 ∷ 9 ∷ []) (digits_of n) (10 ∷ [])

@@ -1,7 +1,7 @@
 -- The lines that ask, one after the other: the start, each kind of line, and the end.
 -- Assumes nothing.
 use Rattle.std.proofs.Math.Path.{◌≡◌, ap}
-use Rattle.std.specs.Prelude.{refl, Bool, true, false, cond, ℕ, suc, ◌+◌, ◌≤◌, ◌<◌, leb}
+use Rattle.std.specs.Prelude.{refl, Bool, true, false, cond, ℕ, suc, ◌+◌, ◌≤◌, ◌<◌, leb, Some, None, Option}
 use Rattle.std.proofs.Common.{sym, ◌∙◌, subst, add-one, arith}
 use mathlib.Core.List.{List, [], ◌++◌, append-nil, append_assoc}
 use Rattle.std.proofs.Math.ListN.{length, length-append}
@@ -20,8 +20,6 @@ use Rattle.tables.specs.Valid.{Valid}
 use Rattle.tables.specs.DepsLaws.{valid_graph}
 use Rattle.judge.specs.Hub.{hub}
 use Rattle.print.specs.Print.{put_answer}
-use Rattle.print.specs.declared.Put.{Put}
-use Rattle.print.specs.declared.Put.TheVariants.{Next, Full}
 use Rattle.reply.specs.Said.{Said}
 use Rattle.session_line.specs.Step.{tables_after, Bench, good}
 use Rattle.session_line.specs.StepLaws.{after_hub, after_valid, after_bench}
@@ -32,25 +30,25 @@ use Rattle.session.specs.Ask.{Asking}
 
 -- ---- what a put's answer says
 
-pub put_next : (bs : List ℕ) (at room p : ℕ) → Next p ≡ put_answer bs at room → (at + length bs ≤ room) × (p ≡ at + length bs)
+pub put_next : (bs : List ℕ) (at room p : ℕ) → Some p ≡ put_answer bs at room → (at + length bs ≤ room) × (p ≡ at + length bs)
 unfolding put_answer
 put_next bs at room p e = go (leb (at + length bs) room) refl e
   where
-    go : (t : Bool) → leb (at + length bs) room ≡ t → Next p ≡ cond t (Next (at + length bs)) Full → (at + length bs ≤ room) × (p ≡ at + length bs)
+    go : (t : Bool) → leb (at + length bs) room ≡ t → Some p ≡ cond t (Some (at + length bs)) None → (at + length bs ≤ room) × (p ≡ at + length bs)
     go true l q = (leb-true _ _ l, cc)
-    go false l q = let z : ◌≡◌ {A = ℕ} 0 1 = cc in absurd (omega arith)
+    go false l q = cc
 
-pub put_full : (bs : List ℕ) (at room : ℕ) → Full ≡ put_answer bs at room → room < at + length bs
+pub put_full : (bs : List ℕ) (at room : ℕ) → None ≡ put_answer bs at room → room < at + length bs
 unfolding put_answer
 put_full bs at room e = go (leb (at + length bs) room) refl e
   where
-    go : (t : Bool) → leb (at + length bs) room ≡ t → Full ≡ cond t (Next (at + length bs)) Full → room < at + length bs
-    go true l q = let z : ◌≡◌ {A = ℕ} 0 1 = cc in absurd (omega arith)
+    go : (t : Bool) → leb (at + length bs) room ≡ t → None ≡ cond t (Some (at + length bs)) None → room < at + length bs
+    go true l q = cc
     go false l q = leb-false _ _ l
 
 same_put : (bs cs : List ℕ) (at bt room : ℕ) → at + length bs ≡ bt + length cs → put_answer bs at room ≡ put_answer cs bt room
 unfolding put_answer
-same_put bs cs at bt room e = ap (λ (m : ℕ). cond (leb m room) (Next m) Full) e
+same_put bs cs at bt room e = ap (λ (m : ℕ). cond (leb m room) (Some m) None) e
 
 -- ---- a line that asks
 
@@ -61,7 +59,7 @@ asked_good n u (clock hs) g = refl
 asked_good n u (missing hs) g = refl
 asked_good n u (owner a c) g = refl
 asked_good n u (add h a s m k ds) g = refl
-asked_good n u bad g = let z : ◌≡◌ {A = ℕ} 0 1 = cc in absurd (omega arith)
+asked_good n u bad g = cc
 
 module _ (n : ℕ) (u : Hub) (l : List ℕ) (short : length l ≤ 2400) where
   step_good : good (command_of l) ≡ true → line_step (asking u) n l ≡ record { phase = asking (after_command u (command_of l)); said = answer u (command_of l) }
@@ -81,7 +79,7 @@ asking_start s text out₀ t u cur e v b r i l =
 
 module _ (s text out₀ : List ℕ) (t : Tables) (n at cur : ℕ) (out : List ℕ) (k : Asking s text out₀ t n at cur out) where
   -- what is written after what was said so far
-  compose : (bs : List ℕ) (r : Put) (out₁ : List ℕ) → Said bs at r out out₁ → Said (k.done ++ bs) 0 r out₀ out₁
+  compose : (bs : List ℕ) (r : Option ℕ) (out₁ : List ℕ) → Said bs at r out out₁ → Said (k.done ++ bs) 0 r out₀ out₁
   compose bs r out₁ w =
       let m : at + length bs ≡ 0 + length (k.done ++ bs) = omega (arith, k.place, length-append k.done bs) in
       record {
@@ -95,7 +93,7 @@ module _ (s text out₀ : List ℕ) (t : Tables) (n at cur : ℕ) (out : List �
       }
 
   -- nothing follows
-  pub asking_end : line_at s cur ≡ End → Said text 0 (Next at) out₀ out
+  pub asking_end : line_at s cur ≡ End → Said text 0 (Some at) out₀ out
   unfolding ending put_answer
   asking_end e =
       let q : text ≡ k.done = k.rest ∙ ap (k.done ++◌) (line_end (asking k.here) n s cur k.inside e) ∙ append-nil k.done in
@@ -104,20 +102,20 @@ module _ (s text out₀ : List ℕ) (t : Tables) (n at cur : ℕ) (out : List �
       rw q (record { answer = rw (p, le-leb (0 + length k.done) (length out₀) f); buffer = λ z h. k.is; size = k.size })
 
   -- the line is bad: it has no end, or is too long, or says nothing known
-  ends_bad : answers (asking k.here) n (parts_from 10 s cur) ≡ bad_text n → (r : Put) (out₁ : List ℕ) → Said (bad_text n) at r out out₁ → Said text 0 r out₀ out₁
+  ends_bad : answers (asking k.here) n (parts_from 10 s cur) ≡ bad_text n → (r : Option ℕ) (out₁ : List ℕ) → Said (bad_text n) at r out out₁ → Said text 0 r out₀ out₁
   ends_bad e r out₁ w = rw (k.rest, e) (compose (bad_text n) r out₁ w)
 
-  pub asking_open : line_at s cur ≡ Unended → (r : Put) (out₁ : List ℕ) → Said (bad_text n) at r out out₁ → Said text 0 r out₀ out₁
+  pub asking_open : line_at s cur ≡ Unended → (r : Option ℕ) (out₁ : List ℕ) → Said (bad_text n) at r out out₁ → Said text 0 r out₀ out₁
   asking_open e = ends_bad (line_open (asking k.here) n s cur refl e)
 
-  pub asking_long : line_at s cur ≡ TooLong → (r : Put) (out₁ : List ℕ) → Said (bad_text n) at r out out₁ → Said text 0 r out₀ out₁
+  pub asking_long : line_at s cur ≡ TooLong → (r : Option ℕ) (out₁ : List ℕ) → Said (bad_text n) at r out out₁ → Said text 0 r out₀ out₁
   asking_long e = ends_bad (line_long (asking k.here) n s cur refl e)
 
   module _ (a e : ℕ) (c : Cursor) (q : line_at s cur ≡ Whole a e c) where
     short : length (part s a e) ≤ 2400
     short = line_length (asking k.here) n s cur a e c q
 
-    pub asking_bad : command_of (part s a e) ≡ bad → (r : Put) (out₁ : List ℕ) → Said (bad_text n) at r out out₁ → Said text 0 r out₀ out₁
+    pub asking_bad : command_of (part s a e) ≡ bad → (r : Option ℕ) (out₁ : List ℕ) → Said (bad_text n) at r out out₁ → Said text 0 r out₀ out₁
     unfolding bad_line
     asking_bad h =
         ends_bad
@@ -138,7 +136,7 @@ module _ (s text out₀ : List ℕ) (t : Tables) (n at cur : ℕ) (out : List �
           ∙ sym (append_assoc k.done (answer (hub t) (command_of (part s a e))) (answers (asking (after_command k.here (command_of (part s a e)))) (suc n) (parts_from 10 s c.at)))
 
       -- the answer does not fit
-      pub asking_full : (out₁ : List ℕ) → Said (answer (hub t) (command_of (part s a e))) at Full out out₁ → Said text 0 Full out₀ out₁
+      pub asking_full : (out₁ : List ℕ) → Said (answer (hub t) (command_of (part s a e))) at None out out₁ → Said text 0 None out₀ out₁
       unfolding put_answer
       asking_full out₁ w =
           let f = put_full (answer (hub t) (command_of (part s a e))) at (length out) w.answer in
@@ -147,16 +145,16 @@ module _ (s text out₀ : List ℕ) (t : Tables) (n at cur : ℕ) (out : List �
           let n₂ = length-append (k.done ++ answer (hub t) (command_of (part s a e))) more in
           let n₃ = length-append k.done (answer (hub t) (command_of (part s a e))) in
           let l : length out₀ < 0 + length text = omega (arith, k.place, k.size) in
-          record { answer = rw (lt-leb (0 + length text) (length out₀) l); buffer = λ p h. (let z : ◌≡◌ {A = ℕ} 0 1 = cc in absurd (omega arith)); size = w.size ∙ k.size }
+          record { answer = rw (lt-leb (0 + length text) (length out₀) l); buffer = λ p h. (cc); size = w.size ∙ k.size }
 
       -- it fits, and the next line follows
-      pub asking_next : (p : ℕ) (out₁ : List ℕ) (t₁ : Tables) → Said (answer (hub t) (command_of (part s a e))) at (Next p) out out₁ → t₁ ≡ tables_after t (command_of (part s a e))
+      pub asking_next : (p : ℕ) (out₁ : List ℕ) (t₁ : Tables) → Said (answer (hub t) (command_of (part s a e))) at (Some p) out out₁ → t₁ ≡ tables_after t (command_of (part s a e))
           → Asking s text out₀ t₁ (n + 1) p c.at out₁
       asking_next p out₁ t₁ w h =
           let x = command_of (part s a e) in
           let f = put_next (answer (hub t) x) at (length out) p w.answer in
           let b = line_bounds (asking k.here) n s cur a e c q in
-          let d = compose (answer (hub t) x) (Next p) out₁ w in
+          let d = compose (answer (hub t) x) (Some p) out₁ w in
           let m = length-append k.done (answer (hub t) x) in
           subst (λ (t₂ : Tables). Asking s text out₀ t₂ (n + 1) p c.at out₁) (sym h)
           (record {

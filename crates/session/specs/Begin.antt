@@ -1,11 +1,11 @@
 -- What reading the first two lines gives.
 -- Assumes nothing.
-use Rattle.std.specs.Prelude.{◌≡◌, List, ℕ, ◌≤◌, ◌<◌, length}
+use Rattle.std.specs.Prelude.{◌≡◌, List, ℕ, ◌≤◌, ◌<◌, length, Result, Ok, Err}
 use Rattle.paper.specs.Session.{asking, bench, bad_text, answers}
 use Rattle.text.specs.Parts.{part, parts_from}
 use Rattle.text.specs.declared.Cursor.{Cursor}
-use Rattle.session.specs.declared.Begin.{Begin}
-use Rattle.session.specs.declared.Begin.TheVariants.{Opens, Bad}
+use Rattle.session.specs.declared.Opening.{Opening}
+use Rattle.session.specs.declared.BadLine.{BadLine}
 
 -- a line from a to e of at most 2,400 bytes, and the place past its LF
 pub record Inside (s : List ℕ) (a e : ℕ) (c : Cursor) : Type 0 where
@@ -24,6 +24,6 @@ pub record Opened (text s : List ℕ) (n : ℕ) (c : Cursor) : Type 0 where
   pub far : 3 ≤ c.at
 
 -- the first two lines are right, or one of them is bad
-abbrev pub Begun : List ℕ → List ℕ → Begin → Type 0
-Begun text s (Opens n c) = Opened text s n c
-Begun text s (Bad k) = text ≡ bad_text k
+abbrev pub Begun : List ℕ → List ℕ → Result Opening BadLine → Type 0
+Begun text s (Ok o) = Opened text s o.actors o.next
+Begun text s (Err k) = text ≡ bad_text k.number

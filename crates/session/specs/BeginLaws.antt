@@ -1,7 +1,8 @@
 -- The first two lines.
 -- Assumes nothing.
+use Rattle.std.specs.Prelude as std
 use Rattle.std.proofs.Math.Path.{◌≡◌, sym, ap}
-use Rattle.std.specs.Prelude.{refl, List, [], ◌∷◌, ◌++◌, Bool, cond, ◌&&◌, ℕ, suc, ◌≤◌, leb, length}
+use Rattle.std.specs.Prelude.{refl, List, [], ◌∷◌, ◌++◌, Bool, cond, ◌&&◌, ℕ, suc, ◌≤◌, leb, length, Some, None, Result, Ok, Err}
 use Rattle.std.proofs.Common.{◌∙◌, subst, append-nil, arith, le-leb, leb-true}
 use Rattle.std.proofs.Math.Bool.{true, false}
 use Rattle.std.proofs.Math.Option.{Option, none, some}
@@ -11,19 +12,17 @@ use Rattle.paper.specs.Lists.{same_list}
 use Rattle.paper.specs.Text.{parted, decimal_of, given, next, last}
 use Rattle.paper.specs.Command.{header, actors_word, in_range, actors_by, actors_of}
 use Rattle.paper.specs.Session.{first, second, asking, ended, bench, bad_text, bad_line, first_line, second_line, short_line, long_line, line_step, ending, answers, session}
+use Rattle.text.specs.Answers.{parsed}
 use Rattle.text.specs.Parts.{part, parts_from}
 use Rattle.text.specs.PartsLaws.{parts_start, part_length_lem, same_lengths}
 use Rattle.text.specs.Answers.{line_at}
 use Rattle.text.specs.declared.Cursor.{Cursor}
 use Rattle.text.specs.declared.Next.TheVariants.{Whole, Unended, TooLong, End}
-use Rattle.print.specs.declared.Put.{Put}
 use Rattle.reply.specs.Said.{Said}
-use Rattle.command.specs.Answers.{actors_answer}
-use Rattle.command.specs.declared.Actors.TheVariants.{Count, NotActors}
 use Rattle.session.specs.Begin.{Inside, Opened, Begun}
 use Rattle.session.specs.LineLaws.{line_is, line_end, line_long, line_open, line_length, line_bounds, line_whole}
-use Rattle.session.specs.declared.Begin.{Begin}
-use Rattle.session.specs.declared.Begin.TheVariants.{Opens, Bad}
+use Rattle.session.specs.declared.Opening.{Opening}
+use Rattle.session.specs.declared.BadLine.{BadLine}
 
 -- after a bad line nothing follows
 ended_line : (n : ℕ) (l : List ℕ) → line_step ended n l ≡ record { phase = ended; said = [] }
@@ -61,15 +60,15 @@ module _ (l : List ℕ) (short : length l ≤ 2400) (ls : List (List ℕ)) where
 
 -- ---- the number of actors
 
-actors_some : (o : Option ℕ) (n : ℕ) → actors_answer o ≡ Count n → o ≡ some n
-unfolding actors_answer
-actors_some none n e = let z : ◌≡◌ {A = ℕ} 0 1 = cc in absurd (omega arith)
+actors_some : (o : Option ℕ) (n : ℕ) → parsed o ≡ Some n → o ≡ some n
+unfolding parsed
+actors_some none n e = cc
 actors_some (some m) n e = ap some (cc)
 
-actors_none : (o : Option ℕ) → actors_answer o ≡ NotActors → o ≡ none
-unfolding actors_answer
+actors_none : (o : Option ℕ) → parsed o ≡ None → o ≡ none
+unfolding parsed
 actors_none none e = refl
-actors_none (some m) e = let z : ◌≡◌ {A = ℕ} 0 1 = cc in absurd (omega arith)
+actors_none (some m) e = cc
 
 -- it is 1 to 16
 range_of_lem : (v n : ℕ) → in_range v ≡ some n → (1 ≤ n) × (n ≤ 16)
@@ -78,28 +77,28 @@ range_of_lem v n e = go (leb 1 v) (leb v 16) refl refl e
   where
     go : (x y : Bool) → leb 1 v ≡ x → leb v 16 ≡ y → cond (x && y) (some v) none ≡ some n → (1 ≤ n) × (n ≤ 16)
     go true true p q h = let m : v ≡ n = cc in (omega (arith, leb-true 1 v p), omega (arith, leb-true v 16 q))
-    go true false p q h = let z : ◌≡◌ {A = ℕ} 0 1 = cc in absurd (omega arith)
-    go false y p q h = let z : ◌≡◌ {A = ℕ} 0 1 = cc in absurd (omega arith)
+    go true false p q h = cc
+    go false y p q h = cc
 
 actors_range : (fs : List (List ℕ)) (n : ℕ) → actors_by fs ≡ some n → (1 ≤ n) × (n ≤ 16)
 unfolding actors_by next given last
-actors_range [] n e = let z : ◌≡◌ {A = ℕ} 0 1 = cc in absurd (omega arith)
+actors_range [] n e = cc
 actors_range (w ∷ fs) n e = go (same_list w actors_word) fs e
   where
     value : (o : Option ℕ) (gs : List (List ℕ)) → given none o (λ v. last none gs (in_range v)) ≡ some n → (1 ≤ n) × (n ≤ 16)
-    value none gs h = let z : ◌≡◌ {A = ℕ} 0 1 = cc in absurd (omega arith)
+    value none gs h = cc
     value (some v) [] h = range_of_lem v n h
-    value (some v) (g ∷ gs) h = let z : ◌≡◌ {A = ℕ} 0 1 = cc in absurd (omega arith)
+    value (some v) (g ∷ gs) h = cc
 
     go : (t : Bool) (gs : List (List ℕ)) → cond t (next none decimal_of gs (λ v hs. last none hs (in_range v))) none ≡ some n → (1 ≤ n) × (n ≤ 16)
-    go false gs h = let z : ◌≡◌ {A = ℕ} 0 1 = cc in absurd (omega arith)
-    go true [] h = let z : ◌≡◌ {A = ℕ} 0 1 = cc in absurd (omega arith)
+    go false gs h = cc
+    go true [] h = cc
     go true (g ∷ gs) h = value (decimal_of g) gs h
 
 -- ---- one line after the other
 
 module _ (s : List ℕ) (a e : ℕ) (c : Cursor) (i : Inside s a e c) where
-  pub second_opens : 3 ≤ c.at → (n : ℕ) → actors_answer (actors_of (part s a e)) ≡ Count n
+  pub second_opens : 3 ≤ c.at → (n : ℕ) → parsed (actors_of (part s a e)) ≡ Some n
       → Opened ((line_step second 2 (part s a e)).said ++ answers (line_step second 2 (part s a e)).phase 3 (parts_from 10 s c.at)) s n c
   unfolding actors_of
   second_opens l n h =
@@ -107,7 +106,7 @@ module _ (s : List ℕ) (a e : ℕ) (c : Cursor) (i : Inside s a e c) where
       let r = actors_range (parted 9 (part s a e)) n o in
       record { is = second_right (part s a e) i.short (parts_from 10 s c.at) n o; low = r.0; high = r.1; inside = i.next; far = l }
 
-  pub second_bad : actors_answer (actors_of (part s a e)) ≡ NotActors
+  pub second_bad : parsed (actors_of (part s a e)) ≡ None
       → (line_step second 2 (part s a e)).said ++ answers (line_step second 2 (part s a e)).phase 3 (parts_from 10 s c.at) ≡ bad_text 2
   second_bad h = second_wrong (part s a e) i.short (parts_from 10 s c.at) (actors_none (actors_of (part s a e)) h)
 
@@ -136,7 +135,7 @@ module _ (s : List ℕ) (a e : ℕ) (c : Cursor) (i : Inside s a e c) where
       | no n ↦ (let z : ◌≡◌ {A = Bool} true false = sym h ∙ same_lengths (part s a e) header n in let y : ◌≡◌ {A = ℕ} 0 1 = cc in absurd (omega arith))
     ]
 
-    pub then_line : (b f : ℕ) (d : Cursor) → line_at s c.at ≡ Whole b f d → (r : Begin)
+    pub then_line : (b f : ℕ) (d : Cursor) → line_at s c.at ≡ Whole b f d → (r : Result Opening BadLine)
         → Begun ((line_step second 2 (part s b f)).said ++ answers (line_step second 2 (part s b f)).phase 3 (parts_from 10 s d.at)) s r
         → Begun ((line_step first 1 (part s a e)).said ++ answers (line_step first 1 (part s a e)).phase 2 (parts_from 10 s c.at)) s r
     then_line b f d q r t = subst (λ (x : List ℕ). Begun x s r) (sym (then_second ∙ line_whole second 2 s c.at b f d q)) t
@@ -164,22 +163,22 @@ module _ (s : List ℕ) where
   unfolding ending
   begin_end q = start ∙ line_end first 1 s 0 (omega arith) q
 
-  pub begin_line : (b f : ℕ) (d : Cursor) → line_at s 0 ≡ Whole b f d → (r : Begin)
+  pub begin_line : (b f : ℕ) (d : Cursor) → line_at s 0 ≡ Whole b f d → (r : Result Opening BadLine)
       → Begun ((line_step first 1 (part s b f)).said ++ answers (line_step first 1 (part s b f)).phase 2 (parts_from 10 s d.at)) s r
       → Begun (session s) s r
   begin_line b f d q r t = subst (λ (x : List ℕ). Begun x s r) (sym (start ∙ line_whole first 1 s 0 b f d q)) t
 
 -- ---- what reading them says, by its answer
 
-module _ (text s : List ℕ) (r : Begin) (b : Begun text s r) where
-  pub begun_opens : (n : ℕ) (c : Cursor) → r ≡ Opens n c → Opened text s n c
-  begun_opens n c e = subst (Begun text s) e b
+module _ (text s : List ℕ) (r : Result Opening BadLine) (b : Begun text s r) where
+  pub begun_opens : (o : Opening) → r ≡ Ok o → Opened text s o.actors o.next
+  begun_opens o e = subst (Begun text s) e b
 
-  module _ (p : Put) (out₀ out₁ : List ℕ) where
+  module _ (p : std.Option ℕ) (out₀ out₁ : List ℕ) where
     -- the lines that ask were answered
-    pub begun_asked : (n : ℕ) (c : Cursor) → r ≡ Opens n c → Said (answers (asking (bench n)) 3 (parts_from 10 s c.at)) 0 p out₀ out₁ → Said text 0 p out₀ out₁
-    begun_asked n c e = subst (λ (x : List ℕ). Said x 0 p out₀ out₁) (sym (begun_opens n c e).is)
+    pub begun_asked : (o : Opening) → r ≡ Ok o → Said (answers (asking (bench o.actors)) 3 (parts_from 10 s o.next.at)) 0 p out₀ out₁ → Said text 0 p out₀ out₁
+    begun_asked o e = subst (λ (x : List ℕ). Said x 0 p out₀ out₁) (sym (begun_opens o e).is)
 
     -- the bad line was named
-    pub begun_bad : (k : ℕ) → r ≡ Bad k → Said (bad_text k) 0 p out₀ out₁ → Said text 0 p out₀ out₁
-    begun_bad k e = let q : text ≡ bad_text k = subst (Begun text s) e b in subst (λ (x : List ℕ). Said x 0 p out₀ out₁) (sym q)
+    pub begun_bad : (k : BadLine) → r ≡ Err k → Said (bad_text k.number) 0 p out₀ out₁ → Said text 0 p out₀ out₁
+    begun_bad k e = let q : text ≡ bad_text k.number = subst (Begun text s) e b in subst (λ (x : List ℕ). Said x 0 p out₀ out₁) (sym q)

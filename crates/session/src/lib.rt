@@ -1,4 +1,5 @@
 // The text session: a change list in, its answers out.
+// Tables that are written are taken one by one: two `&mut` of one struct are lent in no call that the borrow checker covers (tried in `graph::store`).
 #![tactic(auto)]
 
 ghost use Rattle.std.specs.Prelude.{◌≡◌, ◌++◌, ◌≤◌, length};
@@ -9,57 +10,56 @@ ghost use Rattle.reply.specs.Said.{Said};
 ghost use Rattle.lent_place.specs.Places.{told_in};
 ghost use Rattle.session.specs.Begin.{Begun, Inside};
 ghost use Rattle.session.specs.Ask.{Fresh};
-ghost use Rattle.session.specs.Final.{fitted, size_of};
 
-use command::Actors;
-use print::Put;
-use session_line::Told;
+use session_line::NoAnswer;
 use text::{Cursor, Next};
 
-// What the first two lines say: how many actors there are, and where the third line starts; or that line 1 or 2 is bad.
-#[derive(Clone, Copy)]
-pub enum Begin {
-    Opens(u64, Cursor),
-    Bad(u64),
+// What the first two lines say: how many actors there are, and where the third line starts.
+#[derive(Clone, Copy, PartialEq, Eq, Debug)]
+pub struct Opening {
+    pub actors: u64,
+    pub next: Cursor,
+}
+
+// The number of a line that is bad.
+#[derive(Clone, Copy, PartialEq, Eq, Debug)]
+pub struct BadLine {
+    pub number: u64,
 }
 
 // The second line, from `start` to `end`; what follows it starts at the cursor.
-fn read_second(input: &[u8], start: usize, end: usize, next: Cursor) -> Begin
+fn read_second(input: &[u8], start: usize, end: usize, next: Cursor) -> Result<Opening, BadLine>
     requires { Inside input.now start end next × (3 ≤ next.at) }
     ensures { Begun ((line_step second 2 (part input.now start end)).said ++ answers (line_step second 2 (part input.now start end)).phase 3 (parts_from 10 input.now next.at)) input.now result }
 {
     match command::read_actors(&input[start..end]) {
-        Actors::Count(n) => Begin::Opens(n, next),
-        Actors::NotActors => Begin::Bad(2),
+        Some(actors) => Ok(Opening { actors, next }),
+        None => Err(BadLine { number: 2 }),
     }
 }
 
 // The first line, from `start` to `end`, and then the second.
-fn read_first(input: &[u8], start: usize, end: usize, next: Cursor) -> Begin
+fn read_first(input: &[u8], start: usize, end: usize, next: Cursor) -> Result<Opening, BadLine>
     requires { Inside input.now start end next }
     ensures { Begun ((line_step first 1 (part input.now start end)).said ++ answers (line_step first 1 (part input.now start end)).phase 2 (parts_from 10 input.now next.at)) input.now result }
 {
     if !command::is_header(&input[start..end]) {
-        return Begin::Bad(1);
+        return Err(BadLine { number: 1 });
     }
     match next.line(input) {
         Next::Whole { start, end, next } => read_second(input, start, end, next),
-        Next::Unended => Begin::Bad(2),
-        Next::TooLong => Begin::Bad(2),
-        Next::End => Begin::Bad(2),
+        Next::Unended | Next::TooLong | Next::End => Err(BadLine { number: 2 }),
     }
 }
 
 // The first two lines.
-pub fn read_begin(input: &[u8]) -> Begin
+pub fn read_begin(input: &[u8]) -> Result<Opening, BadLine>
     ensures { Begun (session input.now) input.now result }
 {
     let c = Cursor { at: 0 };
     match c.line(input) {
         Next::Whole { start, end, next } => read_first(input, start, end, next),
-        Next::Unended => Begin::Bad(1),
-        Next::TooLong => Begin::Bad(1),
-        Next::End => Begin::Bad(1),
+        Next::Unended | Next::TooLong | Next::End => Err(BadLine { number: 1 }),
     }
 }
 
@@ -74,7 +74,7 @@ fn lines(
     clocks: &mut [u32],
     counts: &mut [u32],
     answer: &mut [u8],
-) -> Put
+) -> Option<usize>
     requires fresh { Fresh (tables hashes.old nodes.old targets.old nexts.old clocks.old counts.old) }
     requires le_at { (3 ≤ c.at) × (c.at ≤ length input.now) }
     ensures { Said (answers (asking (bench (actors (tables hashes.old nodes.old targets.old nexts.old clocks.old counts.old)))) 3 (parts_from 10 input.now c.at)) 0 result answer.old answer.new }
@@ -82,11 +82,11 @@ fn lines(
     let mut cur = c;
     let mut at: usize = 0;
     let mut n: u64 = 3;
+    // A `loop`: each line tells where the next one starts, and the answer where the next one goes.
     loop {
         match cur.line(input) {
-            Next::End => return Put::Next(at),
-            Next::Unended => return reply::put_bad(answer, at, n),
-            Next::TooLong => return reply::put_bad(answer, at, n),
+            Next::End => return Some(at),
+            Next::Unended | Next::TooLong => return reply::put_bad(answer, at, n),
             Next::Whole { start, end, next } => {
                 match session_line::step(
                     &input[start..end],
@@ -99,9 +99,9 @@ fn lines(
                     answer,
                     at,
                 ) {
-                    Told::Bad => return reply::put_bad(answer, at, n),
-                    Told::Full => return Put::Full,
-                    Told::Said(p) => {
+                    Err(NoAnswer::Bad) => return reply::put_bad(answer, at, n),
+                    Err(NoAnswer::Full) => return None,
+                    Ok(p) => {
                         at = p;
                         cur = next;
                         n += 1;
@@ -113,7 +113,7 @@ fn lines(
 }
 
 // The lines that ask, of an empty graph with n actors.
-fn ask(input: &[u8], c: Cursor, n: u64, answer: &mut [u8]) -> Put
+fn ask(input: &[u8], c: Cursor, n: u64, answer: &mut [u8]) -> Option<usize>
     requires le_n { (1 ≤ n) × (n ≤ 16) }
     requires le_at { (3 ≤ c.at) × (c.at ≤ length input.now) }
     ensures { Said (answers (asking (bench n)) 3 (parts_from 10 input.now c.at)) 0 result answer.old answer.new }
@@ -139,32 +139,12 @@ fn ask(input: &[u8], c: Cursor, n: u64, answer: &mut [u8]) -> Put
 }
 
 // All lines: the answer into the buffer, and its length or that it does not fit.
-pub fn run(input: &[u8], answer: &mut [u8]) -> Put
+pub fn run(input: &[u8], answer: &mut [u8]) -> Option<usize>
     ensures { Said (session input.now) 0 result answer.old answer.new }
 {
     match read_begin(input) {
-        Begin::Bad(k) => reply::put_bad(answer, 0, k),
-        Begin::Opens(n, next) => ask(input, next, n, answer),
-    }
-}
-
-// Did the answer fit?
-fn fits(r: Put) -> bool
-    ensures { result ≡ fitted r }
-{
-    match r {
-        Put::Next(n) => true,
-        Put::Full => false,
-    }
-}
-
-// The answer's length, and 0 where it did not fit.
-fn size_of(r: Put) -> u64
-    ensures { result ≡ size_of r }
-{
-    match r {
-        Put::Next(n) => n as u64,
-        Put::Full => 0,
+        Ok(opening) => ask(input, opening.next, opening.actors, answer),
+        Err(bad) => reply::put_bad(answer, 0, bad.number),
     }
 }
 
@@ -176,9 +156,9 @@ pub extern "C" fn cg_session(input: &[u8], answer: &mut [u8], told: &mut [u64]) 
     ensures told_after { told.new ≡ told_in (length_in (session input.now) (length answer.old)) told.old }
     ensures answer_after { answer.new ≡ buffer_in (session input.now) answer.old }
 {
-    let r = run(input, answer);
-    lent_place::tell(told, size_of(r));
-    if fits(r) {
+    let put = run(input, answer);
+    lent_place::tell(told, put.unwrap_or(0) as u64);
+    if put.is_some() {
         return 0;
     }
     print::zero_all(answer);

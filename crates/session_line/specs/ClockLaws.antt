@@ -1,6 +1,6 @@
 -- Laws of what a `clock` line answers.
 -- Assumes nothing.
-use Rattle.std.specs.Prelude.{◌≡◌, ℕ, ◌-◌, ◌≤◌, ◌<◌, length, take, drop}
+use Rattle.std.specs.Prelude.{◌≡◌, ℕ, ◌-◌, ◌≤◌, ◌<◌, length, take, drop, Option}
 use Rattle.std.proofs.Math.Path.{ap, subst}
 use Rattle.std.proofs.Common.{◌∙◌, arith, length-append, take_at}
 use mathlib.Core.List.{List, ◌++◌}
@@ -12,7 +12,6 @@ use Rattle.paper.proofs.Each.{length_each}
 use Rattle.tables.specs.Tables.{Tables, actors, graph}
 use Rattle.judge.specs.Hub.{hub}
 use Rattle.list_clock.specs.Clocks.{clock_entries}
-use Rattle.print.specs.declared.Put.{Put}
 use Rattle.reply.specs.Said.{Said}
 
 -- the clock's entries stand in the first entries of a buffer, and that part is printed
@@ -36,7 +35,7 @@ module _ (t : Tables) (bytes buffer : List ℕ) {last : List ℕ} {n : ℕ} (e :
   unfolding entries clock_entries
   clock_shown = part_is ∙ e ∙ ap (each_below (clock_entries (graph t) bytes)) q
 
-  pub said_clock : (at : ℕ) (r : Put) (out₀ out₁ : List ℕ)
+  pub said_clock : (at : ℕ) (r : Option ℕ) (out₀ out₁ : List ℕ)
       → Said (answer_line clock_word (clock_text (take (actors t - 0) (last ++ drop (actors t - 0) buffer)))) at r out₀ out₁
       → Said (answer (hub t) (clock (hashes_of bytes))) at r out₀ out₁
   unfolding answer

@@ -1,6 +1,6 @@
 -- Laws of what a `heads` line answers.
 -- Assumes nothing.
-use Rattle.std.specs.Prelude.{◌≡◌, ℕ, ◌*◌, ◌/◌, ◌≤◌, length}
+use Rattle.std.specs.Prelude.{◌≡◌, ℕ, ◌*◌, ◌/◌, ◌≤◌, length, Option}
 use Rattle.std.proofs.Math.Path.{subst}
 use mathlib.Core.List.{List}
 use Rattle.std.proofs.Common.{arith}
@@ -17,7 +17,6 @@ use Rattle.answer_buffer.specs.Answers.{list_answer, filled}
 use Rattle.answer_buffer.specs.Entering.{Wide, wide_ascending, flat_long}
 use Rattle.heads.specs.Heads.{head_hashes}
 use Rattle.heads.specs.HeadLaws.{is_head, from_node, from_wide, from_all, heads_long}
-use Rattle.print.specs.declared.Put.{Put}
 use Rattle.reply.specs.Said.{Said}
 use Rattle.session_line.specs.Lines.{count_of}
 use Rattle.session_line.specs.ListLaws.{listed_inside, listed_back}
@@ -42,7 +41,7 @@ module _ (t : Tables) (v : Valid t) (b : Bench (hub t)) where
     unfolding head_hashes
     heads_inside = listed_inside (heads-of (graph t)) heads_wide list₀ (let l = heads_fit in omega arith) n e list f
 
-    pub said_heads : (at : ℕ) (r : Put) (out₀ out₁ : List ℕ)
+    pub said_heads : (at : ℕ) (r : Option ℕ) (out₀ out₁ : List ℕ)
         → Said (answer_line heads_word (list_text (hashes_from list (n / 32) 0))) at r out₀ out₁ → Said (answer (hub t) heads) at r out₀ out₁
     unfolding answer head_hashes
     said_heads at r out₀ out₁ w =

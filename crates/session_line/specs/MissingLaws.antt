@@ -1,6 +1,6 @@
 -- Laws of what a `missing` line answers.
 -- Assumes nothing.
-use Rattle.std.specs.Prelude.{◌≡◌, Bool, true, false, cond, ℕ, zero, suc, ◌+◌, ◌*◌, ◌/◌, ◌%◌, ◌≤◌, ◌<◌, eqb, leb, take, drop}
+use Rattle.std.specs.Prelude.{◌≡◌, Bool, true, false, cond, ℕ, zero, suc, ◌+◌, ◌*◌, ◌/◌, ◌%◌, ◌≤◌, ◌<◌, eqb, leb, take, drop, Option, Ok, Err}
 use Rattle.std.proofs.Math.Path.{refl, ap, subst}
 use Rattle.std.proofs.Common.{sym, ◌∙◌, length-append, length-take, take_at}
 use mathlib.Core.List.{List, [], ◌∷◌, ◌++◌, map}
@@ -21,7 +21,7 @@ use Rattle.tables.specs.Valid.{Valid, Running}
 use Rattle.tables.specs.DepsLaws.{valid_graph}
 use Rattle.judge.specs.Hub.{hub}
 use Rattle.answer_buffer.specs.Answers.{list_answer}
-use Rattle.answer_buffer.specs.declared.Listed.TheVariants.{Done, Short}
+use Rattle.answer_buffer.specs.declared.Refusal.TheVariants.{Short}
 use Rattle.answer_buffer.specs.AnswerLaws.{listed_done, filled_done}
 use Rattle.answer_buffer.specs.Entering.{Wide, wide_cons}
 use Rattle.answer_buffer.specs.Picking.{rest_of, rest_all, hashes_length}
@@ -29,7 +29,6 @@ use Rattle.answer_buffer.specs.Room.{room}
 use Rattle.answer_buffer.specs.SlotLaws.{flat_hashes}
 use Rattle.missing.specs.Missing.{missing_hashes, missing_told, missing_filled, shown, Shown}
 use Rattle.missing.specs.MissingLaws.{empty_told, list_told, list_filled, shown_table, shown_answer}
-use Rattle.print.specs.declared.Put.{Put}
 use Rattle.reply.specs.Said.{Said}
 use Rattle.session_line.specs.Lines.{count_of}
 use Rattle.session_line.specs.ListLaws.{read_flat}
@@ -51,11 +50,11 @@ all_rest hs p n all zero k l = refl
 all_rest hs p n all (suc left) k l = rw (all k (omega arith)) (ap (λ (r : List (List ℕ)). hash_at hs k ∷ r) (all_rest hs p n all left (suc k) (omega arith)))
 
 -- a list that was answered fits
-done_fits : (l : List ℕ) (room n : ℕ) → list_answer l room ≡ Done n → length l ≤ room
+done_fits : (l : List ℕ) (room n : ℕ) → list_answer l room ≡ Ok n → length l ≤ room
 unfolding list_answer
 done_fits l room n = go (leb (length l) room) refl
   where
-    go : (b : Bool) → leb (length l) room ≡ b → cond b (Done (length l)) Short ≡ Done n → length l ≤ room
+    go : (b : Bool) → leb (length l) room ≡ b → cond b (Ok (length l)) (Err Short) ≡ Ok n → length l ≤ room
     go true y e = leb-true (length l) room y
     go false y e = let z : ◌≡◌ {A = ℕ} 0 1 = cc in absurd (omega arith)
 
@@ -109,18 +108,18 @@ module _ (t : Tables) (v : Valid t) where
     none_long z = let h = (room t v).hashes_in in ap length (none_had z) ∙ length-take (32 * changes t) t.hashes ∙ omega arith
 
     -- whenever the missing list is answered with 0, in any buffer, what is shown is the list: a part of the table or of the buffer
-    module _ (whole : length have % 32 ≡ 0) (buffer : List ℕ) (n : ℕ) (e : missing_told (graph t) have (length buffer) ≡ Done n) where
+    module _ (whole : length have % 32 ≡ 0) (buffer : List ℕ) (n : ℕ) (e : missing_told (graph t) have (length buffer) ≡ Ok n) where
       shown_none : length have ≡ 0 → shown t.hashes (missing_filled (graph t) have buffer) have n ≡ missing_hashes (graph t) have
       shown_none z =
-          let h : Done n ≡ Done (32 * changes t) = sym e ∙ empty_told (graph t) have whole z (length buffer) in
+          let h : Ok n ≡ Ok (32 * changes t) = sym e ∙ empty_told (graph t) have whole z (length buffer) in
           let q : n ≡ 32 * changes t = cc in
           shown_table t.hashes (missing_filled (graph t) have buffer) have n z ∙ ap (λ (k : ℕ). take k t.hashes) q ∙ sym (none_had z) ∙ sym bytes_are
 
       shown_some : (length have ≡ 0 → ⊥) → shown t.hashes (missing_filled (graph t) have buffer) have n ≡ missing_hashes (graph t) have
       shown_some z =
-          let h : list_answer (missing_hashes (graph t) have) (length buffer) ≡ Done n = sym (list_told (graph t) have whole z (length buffer)) ∙ e in
+          let h : list_answer (missing_hashes (graph t) have) (length buffer) ≡ Ok n = sym (list_told (graph t) have whole z (length buffer)) ∙ e in
           let l = done_fits (missing_hashes (graph t) have) (length buffer) n h in
-          let d : Done n ≡ Done (length (missing_hashes (graph t) have)) = sym h ∙ listed_done (missing_hashes (graph t) have) (length buffer) l in
+          let d : Ok n ≡ Ok (length (missing_hashes (graph t) have)) = sym h ∙ listed_done (missing_hashes (graph t) have) (length buffer) l in
           let q : n ≡ length (missing_hashes (graph t) have) = cc in
           shown_answer t.hashes (missing_filled (graph t) have buffer) have n z
           ∙ ap (take n) (list_filled (graph t) have whole z buffer ∙ filled_done (missing_hashes (graph t) have) buffer l)
@@ -173,7 +172,7 @@ module _ (t : Tables) (v : Valid t) where
         pub part_long : 32 * (n / 32) ≤ length part
         part_long = let a = ap length (g ∙ shown_all.0) in let m = shown_all.1 in omega arith
 
-        pub said_missing : (at : ℕ) (r : Put) (out₀ out₁ : List ℕ)
+        pub said_missing : (at : ℕ) (r : Option ℕ) (out₀ out₁ : List ℕ)
             → Said (answer_line missing_word (list_text (hashes_from part (n / 32) 0))) at r out₀ out₁ → Said (answer (hub t) (missing (hashes_of have))) at r out₀ out₁
         unfolding answer
         said_missing at r out₀ out₁ w =

@@ -1,6 +1,6 @@
 -- What was read of a line: the command again from the answer and the two buffers.
 -- Assumes nothing.
-use Rattle.std.specs.Prelude.{◌≡◌, refl, List, [], ◌++◌, ℕ, ◌*◌, ◌-◌, ◌%◌, ◌≤◌, length, take, drop}
+use Rattle.std.specs.Prelude.{◌≡◌, refl, List, [], ◌++◌, ℕ, ◌*◌, ◌-◌, ◌%◌, ◌≤◌, length, take, drop, Option, Some, None}
 use Rattle.std.proofs.Common.{sym, ap, ◌∙◌, arith, length-append, take_at}
 use Rattle.list_laws.specs.Over.{over, over_none}
 use Rattle.paper.specs.Lists.{hashes_of}
@@ -31,22 +31,22 @@ list_in (add h a s m k ds) = ds
 list_in bad = []
 
 -- how many hashes the list has
-unfoldable pub many_in : Line → ℕ
-many_in line.Heads = 0
-many_in (line.Clock n) = n
-many_in (line.Missing n) = n
-many_in (line.Owner a c) = 0
-many_in (line.Add a s m k n) = n
-many_in line.Bad = 0
+unfoldable pub many_in : Option Line → ℕ
+many_in (Some line.Heads) = 0
+many_in (Some (line.Clock n)) = n
+many_in (Some (line.Missing n)) = n
+many_in (Some (line.Owner a c)) = 0
+many_in (Some (line.Add a s m k n)) = n
+many_in None = 0
 
 -- the command of an answer, a hash and a list
-unfoldable pub again : Line → List ℕ → List (List ℕ) → Command
-again line.Heads h l = heads
-again (line.Clock n) h l = clock l
-again (line.Missing n) h l = missing l
-again (line.Owner a c) h l = owner a c
-again (line.Add a s m k n) h l = add h a s m k l
-again line.Bad h l = bad
+unfoldable pub again : Option Line → List ℕ → List (List ℕ) → Command
+again (Some line.Heads) h l = heads
+again (Some (line.Clock n)) h l = clock l
+again (Some (line.Missing n)) h l = missing l
+again (Some (line.Owner a c)) h l = owner a c
+again (Some (line.Add a s m k n)) h l = add h a s m k l
+again None h l = bad
 
 again_is : (x : Command) → again (line_of x) (hash_in_command x) (list_in x) ≡ x
 unfolding again line_of hash_in_command list_in
@@ -75,9 +75,9 @@ list_is (owner a c) list = sym (over_none list 0)
 list_is (add h a s m k ds) list = refl
 list_is bad list = sym (over_none list 0)
 
-module _ {x : Command} {r : Line} {hash₀ hash₁ list₀ list₁ : List ℕ} (w : Answered x r hash₀ hash₁ list₀ list₁) (l : Line) (e : r ≡ l) where
+module _ {x : Command} {r : Option Line} {hash₀ hash₁ list₀ list₁ : List ℕ} (w : Answered x r hash₀ hash₁ list₀ list₁) (l : Option Line) (e : r ≡ l) where
   pub asked : x ≡ again l (hash_in_command x) (list_in x)
-  asked = sym (again_is x) ∙ ap (λ (i : Line). again i (hash_in_command x) (list_in x)) (sym w.answer ∙ e)
+  asked = sym (again_is x) ∙ ap (λ (i : Option Line). again i (hash_in_command x) (list_in x)) (sym w.answer ∙ e)
 
   many : length (list_in x) ≡ many_in l
   many = many_is x ∙ ap many_in (sym w.answer ∙ e)

@@ -1,16 +1,15 @@
 -- What a line that asks does to the tables, and what it answers.
 -- Assumes nothing.
-use Rattle.std.specs.Prelude.{◌≡◌, Bool, true, false, List, ℕ, ◌≤◌}
+use Rattle.std.specs.Prelude.{◌≡◌, Bool, true, false, List, ℕ, ◌≤◌, Some, None, Result, Ok, Err}
 use Rattle.paper.specs.Adding.{Hub}
 use Rattle.paper.specs.Command.{Command, heads, clock, missing, owner, add, bad}
 use Rattle.paper.specs.Session.{change_of, answer}
 use Rattle.tables.specs.Tables.{Tables}
 use Rattle.judge.specs.Hub.{hub}
 use Rattle.graph.specs.Place.{added_tables}
-use Rattle.print.specs.declared.Put.TheVariants as put
 use Rattle.reply.specs.Said.{Said}
-use Rattle.session_line.specs.declared.Told.{Told}
-use Rattle.session_line.specs.declared.Told.TheVariants as told
+use Rattle.session_line.specs.declared.NoAnswer.{NoAnswer}
+use Rattle.session_line.specs.declared.NoAnswer.TheVariants.{Full, Bad}
 
 -- only `add` changes them
 unfoldable pub tables_after : Tables → Command → Tables
@@ -38,7 +37,7 @@ good (add h a s m k ds) = true
 good bad = false
 
 -- what one line that asks gives: its answer written, or that it does not fit, or that the line is bad and nothing is written
-abbrev pub Stepped : Tables → Command → ℕ → Told → List ℕ → List ℕ → Type 0
-Stepped t x at (told.Said p) out₀ out₁ = (good x ≡ true) × Said (answer (hub t) x) at (put.Next p) out₀ out₁
-Stepped t x at told.Full out₀ out₁ = (good x ≡ true) × Said (answer (hub t) x) at put.Full out₀ out₁
-Stepped t x at told.Bad out₀ out₁ = (x ≡ bad) × (out₁ ≡ out₀)
+abbrev pub Stepped : Tables → Command → ℕ → Result ℕ NoAnswer → List ℕ → List ℕ → Type 0
+Stepped t x at (Ok p) out₀ out₁ = (good x ≡ true) × Said (answer (hub t) x) at (Some p) out₀ out₁
+Stepped t x at (Err Full) out₀ out₁ = (good x ≡ true) × Said (answer (hub t) x) at None out₀ out₁
+Stepped t x at (Err Bad) out₀ out₁ = (x ≡ bad) × (out₁ ≡ out₀)

@@ -1,4 +1,5 @@
 // One line of a session that asks: what it does to the tables, and its answer line.
+// Tables that are written are taken one by one: two `&mut` of one struct are lent in no call that the borrow checker covers (tried in `graph::store`).
 #![tactic(auto)]
 
 ghost use Rattle.std.specs.Prelude.{◌≡◌, List, [], ◌∷◌, ◌%◌, ◌≤◌, length};
@@ -6,60 +7,53 @@ ghost use Rattle.paper.specs.Lists.{hashes_of};
 ghost use Rattle.paper.specs.Adding.{judged};
 ghost use Rattle.paper.specs.Command.{add_word, heads, clock, missing, owner, command_of};
 ghost use Rattle.paper.specs.Session.{answer_line, verdict_text, answer};
+ghost use Rattle.tables.specs.Lent.{lists};
 ghost use Rattle.tables.specs.Tables.{tables};
 ghost use Rattle.tables.specs.Valid.{Valid};
-ghost use Rattle.judge.specs.Judge.{change};
+ghost use Rattle.judge.specs.Judged.{lent_change};
 ghost use Rattle.judge.specs.Hub.{hub};
 ghost use Rattle.graph.specs.Place.{added_tables};
 ghost use Rattle.reply.specs.Said.{Said};
 ghost use Rattle.session_line.specs.Added.{missing_of, Named, judged_text};
 ghost use Rattle.session_line.specs.Step.{tables_after, Bench, Stepped};
-ghost use Rattle.session_line.specs.Lines.{count_of, told_of};
 
-use answer_buffer::Listed;
 use command::Line;
-use hash::{Found, Missing};
-use judge::Judged;
-use print::Put;
+use judge::{AddRefusal, Change};
+use tables::Tables;
 
-// What one line gives: the place past its answer, that the answer does not fit, or that it is no line that asks.
-#[derive(Clone, Copy)]
-pub enum Told {
-    Said(usize),
+// Why a line has no answer: it does not fit, or it is no line that asks.
+#[derive(Clone, Copy, PartialEq, Eq, Debug)]
+pub enum NoAnswer {
     Full,
     Bad,
 }
 
 // The place of the dependency that is unknown, where that is what adding came to.
-fn unknown_of(j: Judged) -> Missing
-    ensures { result ≡ missing_of j }
+fn unknown_of(judged: Result<(), AddRefusal>) -> Option<usize>
+    ensures { result ≡ missing_of judged }
 {
-    match j {
-        Judged::Unknown(i) => Missing::First(i),
-        Judged::Done => Missing::Nothing,
-        Judged::Malformed => Missing::Nothing,
-        Judged::Known => Missing::Nothing,
-        Judged::NoActor => Missing::Nothing,
-        Judged::WrongSequence => Missing::Nothing,
-        Judged::BadOps => Missing::Nothing,
-        Judged::TooManyDeps => Missing::Nothing,
-        Judged::NoNodeRoom => Missing::Nothing,
-        Judged::NoEdgeRoom => Missing::Nothing,
+    match judged {
+        Err(AddRefusal::Unknown(i)) => Some(i),
+        _ => None,
     }
 }
 
 // The answer line of what adding came to.
-fn put_judged(out: &mut [u8], at: usize, j: Judged, deps: &[u8]) -> Put
-    requires { (at ≤ length out.old) × Named j deps.now }
-    ensures { Said (answer_line add_word (judged_text j deps.now)) at result out.old out.new }
+fn put_judged(
+    out: &mut [u8],
+    at: usize,
+    judged: Result<(), AddRefusal>,
+    deps: &[u8],
+) -> Option<usize>
+    requires { (at ≤ length out.old) × Named judged deps.now }
+    ensures { Said (answer_line add_word (judged_text judged deps.now)) at result out.old out.new }
 {
-    match unknown_of(j) {
-        Missing::First(i) => {
+    match unknown_of(judged) {
+        Some(i) => {
             let p = 32 * i;
-            let e = p + 32;
-            reply::put_unknown(out, at, &deps[p..e])
+            reply::put_unknown(out, at, &deps[p..p + 32])
         }
-        Missing::Nothing => reply::put_add(out, at, judge::number(j) as u64),
+        None => reply::put_add(out, at, judge::number(judged) as u64),
     }
 }
 
@@ -71,157 +65,74 @@ pub fn add_line(
     nexts: &mut [u32],
     clocks: &mut [u32],
     counts: &mut [u32],
-    hash: &[u8],
-    actor: u64,
-    seq: u64,
-    max: u64,
-    ops: u64,
-    deps: &[u8],
+    change: &Change,
     out: &mut [u8],
     at: usize,
-) -> Put
+) -> Option<usize>
     requires valid { Valid (tables hashes.old nodes.old targets.old nexts.old clocks.old counts.old) }
     requires at_in_bounds { at ≤ length out.old }
-    ensures said { Said (answer_line add_word (verdict_text (change hash.now actor seq max ops deps.now) (judged (hub (tables hashes.old nodes.old targets.old nexts.old clocks.old counts.old)) (change hash.now actor seq max ops deps.now)))) at result out.old out.new }
-    ensures counts_after { tables hashes.new nodes.new targets.new nexts.new clocks.new counts.new ≡ added_tables (tables hashes.old nodes.old targets.old nexts.old clocks.old counts.old) (change hash.now actor seq max ops deps.now) }
+    ensures said { Said (answer_line add_word (verdict_text (lent_change change.now) (judged (hub (tables hashes.old nodes.old targets.old nexts.old clocks.old counts.old)) (lent_change change.now)))) at result out.old out.new }
+    ensures counts_after { tables hashes.new nodes.new targets.new nexts.new clocks.new counts.new ≡ added_tables (tables hashes.old nodes.old targets.old nexts.old clocks.old counts.old) (lent_change change.now) }
 {
-    let j = graph::add(
-        hashes, nodes, targets, nexts, clocks, counts, hash, actor, seq, max, ops, deps,
-    );
-    put_judged(out, at, j, deps)
+    let judged = graph::add(hashes, nodes, targets, nexts, clocks, counts, change);
+    put_judged(out, at, judged, change.deps)
 }
 
 // An `owner` line: the hash of the change that owns the op, or 14.
 pub fn owner_line(
-    hashes: &[u8],
-    nodes: &[u32],
-    targets: &[u32],
-    nexts: &[u32],
-    clocks: &[u32],
-    counts: &[u32],
+    tables: &Tables,
     actor: u64,
     counter: u64,
     out: &mut [u8],
     at: usize,
-) -> Put
-    requires valid { Valid (tables hashes.now nodes.now targets.now nexts.now clocks.now counts.now) }
+) -> Option<usize>
+    requires valid { Valid (lists tables.now) }
     requires at_in_bounds { at ≤ length out.old }
-    ensures { Said (answer (hub (tables hashes.now nodes.now targets.now nexts.now clocks.now counts.now)) (owner actor counter)) at result out.old out.new }
+    ensures { Said (answer (hub (lists tables.now)) (owner actor counter)) at result out.old out.new }
 {
-    let n = counts[0] as usize;
-    match owner::owner_at(nodes, n, actor, counter) {
-        Found::At(k) => {
+    let n = tables.counts[0] as usize;
+    match owner::owner_at(tables.nodes, n, actor, counter) {
+        Some(k) => {
             let p = 32 * k;
-            let e = p + 32;
-            reply::put_owner(out, at, &hashes[p..e])
+            reply::put_owner(out, at, &tables.hashes[p..p + 32])
         }
-        Found::Unknown => reply::put_no_owner(out, at),
-    }
-}
-
-// How many bytes of an answer were listed; nothing at a refusal.
-fn count_of(l: Listed) -> usize
-    ensures { result ≡ count_of l }
-{
-    match l {
-        Listed::Done(n) => n,
-        Listed::Malformed => 0,
-        Listed::NotFound => 0,
-        Listed::NoOwner => 0,
-        Listed::Short => 0,
+        None => reply::put_no_owner(out, at),
     }
 }
 
 // A `heads` line: the heads, ascending. At most 256 changes are lent, so the list has room for all of them.
-pub fn heads_line(
-    hashes: &[u8],
-    nodes: &[u32],
-    targets: &[u32],
-    nexts: &[u32],
-    clocks: &[u32],
-    counts: &[u32],
-    out: &mut [u8],
-    at: usize,
-) -> Put
-    requires valid { Valid (tables hashes.now nodes.now targets.now nexts.now clocks.now counts.now) × Bench (hub (tables hashes.now nodes.now targets.now nexts.now clocks.now counts.now)) }
+pub fn heads_line(tables: &Tables, out: &mut [u8], at: usize) -> Option<usize>
+    requires valid { Valid (lists tables.now) × Bench (hub (lists tables.now)) }
     requires at_in_bounds { at ≤ length out.old }
-    ensures { Said (answer (hub (tables hashes.now nodes.now targets.now nexts.now clocks.now counts.now)) heads) at result out.old out.new }
+    ensures { Said (answer (hub (lists tables.now)) heads) at result out.old out.new }
 {
     let mut list = [0u8; 8192];
-    let n = count_of(heads::heads(hashes, nodes, targets, nexts, clocks, counts, &mut list));
+    let n = heads::heads(tables, &mut list).unwrap_or(0);
     reply::put_heads(out, at, &list, n / 32)
 }
 
 // A `clock` line: the clock of the listed hashes, an entry for each actor.
-pub fn clock_line(
-    hashes: &[u8],
-    nodes: &[u32],
-    targets: &[u32],
-    nexts: &[u32],
-    clocks: &[u32],
-    counts: &[u32],
-    list: &[u8],
-    out: &mut [u8],
-    at: usize,
-) -> Put
-    requires valid { Valid (tables hashes.now nodes.now targets.now nexts.now clocks.now counts.now) × Bench (hub (tables hashes.now nodes.now targets.now nexts.now clocks.now counts.now)) }
+pub fn clock_line(tables: &Tables, list: &[u8], out: &mut [u8], at: usize) -> Option<usize>
+    requires valid { Valid (lists tables.now) × Bench (hub (lists tables.now)) }
     requires at_in_bounds { at ≤ length out.old }
-    ensures { Said (answer (hub (tables hashes.now nodes.now targets.now nexts.now clocks.now counts.now)) (clock (hashes_of list.now))) at result out.old out.new }
+    ensures { Said (answer (hub (lists tables.now)) (clock (hashes_of list.now))) at result out.old out.new }
 {
-    let a = counts[2] as usize;
+    let a = tables.counts[2] as usize;
     let mut clock = [0u32; 16];
-    list_clock::clock_into(
-        hashes,
-        nodes,
-        targets,
-        nexts,
-        clocks,
-        counts,
-        list,
-        &mut clock[0..a],
-    );
+    list_clock::clock_into(tables, list, &mut clock[0..a]);
     reply::put_clock(out, at, &clock[0..a])
 }
 
 // A `missing` line: what is missing to who has the listed hashes. With none listed that is the table of hashes itself.
-pub fn missing_line(
-    hashes: &[u8],
-    nodes: &[u32],
-    targets: &[u32],
-    nexts: &[u32],
-    clocks: &[u32],
-    counts: &[u32],
-    list: &[u8],
-    out: &mut [u8],
-    at: usize,
-) -> Put
-    requires valid { Valid (tables hashes.now nodes.now targets.now nexts.now clocks.now counts.now) × Bench (hub (tables hashes.now nodes.now targets.now nexts.now clocks.now counts.now)) }
+pub fn missing_line(tables: &Tables, list: &[u8], out: &mut [u8], at: usize) -> Option<usize>
+    requires valid { Valid (lists tables.now) × Bench (hub (lists tables.now)) }
     requires list_len { (length list.now % 32 ≡ 0) × (at ≤ length out.old) }
-    ensures { Said (answer (hub (tables hashes.now nodes.now targets.now nexts.now clocks.now counts.now)) (missing (hashes_of list.now))) at result out.old out.new }
+    ensures { Said (answer (hub (lists tables.now)) (missing (hashes_of list.now))) at result out.old out.new }
 {
     let mut answer = [0u8; 8192];
-    let n = count_of(missing::get_hashes(
-        hashes,
-        nodes,
-        targets,
-        nexts,
-        clocks,
-        counts,
-        list,
-        &mut answer,
-    ));
-    let shown = missing::missing_shown(hashes, &answer, list, n);
+    let n = missing::get_hashes(tables, list, &mut answer).unwrap_or(0);
+    let shown = missing::missing_shown(tables.hashes, &answer, list, n);
     reply::put_missing(out, at, shown, n / 32)
-}
-
-// A line whose answer was written, or does not fit.
-fn told_of(p: Put) -> Told
-    ensures { result ≡ told_of p }
-{
-    match p {
-        Put::Next(n) => Told::Said(n),
-        Put::Full => Told::Full,
-    }
 }
 
 // One line that asks: what it does to the tables, and its answer. A line that does not ask changes nothing.
@@ -235,7 +146,7 @@ pub fn step(
     counts: &mut [u32],
     out: &mut [u8],
     at: usize,
-) -> Told
+) -> Result<usize, NoAnswer>
     requires valid { Valid (tables hashes.old nodes.old targets.old nexts.old clocks.old counts.old) }
     requires bench { Bench (hub (tables hashes.old nodes.old targets.old nexts.old clocks.old counts.old)) }
     requires line_len_bound { (length line.now ≤ 2400) × (at ≤ length out.old) }
@@ -244,39 +155,24 @@ pub fn step(
 {
     let mut hash = [0u8; 32];
     let mut list = [0u8; 1152];
-    match command::read(line, &mut hash, &mut list) {
-        Line::Heads => told_of(heads_line(hashes, nodes, targets, nexts, clocks, counts, out, at)),
-        Line::Clock(n) => {
-            let e = 32 * n;
-            told_of(clock_line(
-                hashes,
-                nodes,
-                targets,
-                nexts,
-                clocks,
-                counts,
-                &list[0..e],
-                out,
-                at,
-            ))
-        }
+    let asked = command::read(line, &mut hash, &mut list).ok_or(NoAnswer::Bad)?;
+    let tables = Tables {
+        hashes,
+        nodes,
+        targets,
+        nexts,
+        clocks,
+        counts,
+    };
+    match asked {
+        Line::Heads => heads_line(&tables, out, at).ok_or(NoAnswer::Full),
+        Line::Clock(n) => { clock_line(&tables, &list[0..32 * n], out, at).ok_or(NoAnswer::Full) }
         Line::Missing(n) => {
-            let e = 32 * n;
-            told_of(missing_line(
-                hashes,
-                nodes,
-                targets,
-                nexts,
-                clocks,
-                counts,
-                &list[0..e],
-                out,
-                at,
-            ))
+            missing_line(&tables, &list[0..32 * n], out, at).ok_or(NoAnswer::Full)
         }
-        Line::Owner(actor, counter) => told_of(owner_line(
-            hashes, nodes, targets, nexts, clocks, counts, actor, counter, out, at,
-        )),
+        Line::Owner(actor, counter) => {
+            owner_line(&tables, actor, counter, out, at).ok_or(NoAnswer::Full)
+        }
         Line::Add {
             actor,
             seq,
@@ -284,24 +180,18 @@ pub fn step(
             ops,
             deps,
         } => {
-            let e = 32 * deps;
-            told_of(add_line(
-                hashes,
-                nodes,
-                targets,
-                nexts,
-                clocks,
-                counts,
-                &hash,
+            let change = Change {
+                hash: &hash,
                 actor,
                 seq,
                 max_op,
                 ops,
-                &list[0..e],
-                out,
-                at,
-            ))
+                deps: &list[0..32 * deps],
+            };
+            add_line(
+                hashes, nodes, targets, nexts, clocks, counts, &change, out, at,
+            )
+            .ok_or(NoAnswer::Full)
         }
-        Line::Bad => Told::Bad,
     }
 }

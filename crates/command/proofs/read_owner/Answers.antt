@@ -1,20 +1,13 @@
--- Two numbers and nothing more: one law for each of the four ways out. Assumes nothing.
+-- Two numbers and nothing more: one law for each of the ways out. Assumes nothing.
 use Rattle.std.proofs.Common.{sym, ◌∙◌}
-use borrow.Author.Tests.{ltb-true, ltb-false}
-use Rattle.command.specs.ReadLaws.{owner_actor, owner_counter, owner_more, owner_whole}
+use Rattle.command.specs.ReadLaws.{owner_actor, owner_counter, owner_last}
 use Rattle.command.proofs.read_owner.Goals as goal
 
-pub returns-in_default : goal.returns-in_default
-returns-in_default c = owner_actor _ _ (sym c.number.ensures ∙ c.in_default.is)
+pub returns-in_err-actor : goal.returns-in_err-actor
+returns-in_err-actor c = c.from_residual.ensures ∙ owner_actor _ _ (sym c.in_err-actor.ensures)
 
-pub returns-in_default-number : goal.returns-in_default-number
-returns-in_default-number c =
-    owner_counter _ _ _ _ (sym c.number.ensures ∙ c.in-Is.is) (sym c.number-2.ensures ∙ c.in_default-number.is)
-
-pub returns-then-not-past : goal.returns-then-not-past
-returns-then-not-past c =
-    owner_more _ _ _ _ (sym c.number.ensures ∙ c.in-Is.is) _ _ (sym c.number-2.ensures ∙ c.in-Is-number.is) (ltb-false _ _ (sym c.past.ensures ∙ c.if-not-past.true))
+pub returns-in_err-counter : goal.returns-in_err-counter
+returns-in_err-counter c = c.from_residual-in_err-counter.ensures ∙ owner_counter _ _ _ _ (sym c.in_ok-actor.ensures) (sym c.in_err-counter.ensures)
 
 pub returns : goal.returns
-returns c =
-    owner_whole _ _ _ _ (sym c.number.ensures ∙ c.in-Is.is) _ _ (sym c.number-2.ensures ∙ c.in-Is-number.is) (ltb-true _ _ (sym c.past.ensures ∙ c.if-not-past.false))
+returns c = c.then_some.ensures ∙ owner_last _ _ _ _ (sym c.in_ok-actor.ensures) _ _ (sym c.in_ok-counter.ensures) _ c.past.ensures

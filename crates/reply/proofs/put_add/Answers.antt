@@ -1,23 +1,12 @@
--- The line is written in three parts, of which each is written whole or not at all.
+-- The word is followed by the digits.
 -- Assumes nothing.
-use Rattle.reply.specs.SaidLaws.{first_full, second_full, third, next_room, add_parts}
+use Rattle.std.proofs.Common.{rules}
+use Rattle.paper.specs.Text.{digits_of}
+use Rattle.reply.specs.SaidLaws.{add_parts}
 use Rattle.reply.proofs.put_add.Goals as goal
 
-pub returns-in_default : goal.returns-in_default
-returns-in_default c = first_full _ _ _ _ (add_parts _) _ _ _ c.in_default.ensures
-
-pub put_number-requires : goal.put_number-requires
-put_number-requires c = next_room _ _ _ _ _ c.in-Next.ensures
-
-pub returns-in_default-put_number : goal.returns-in_default-put_number
-returns-in_default-put_number c =
-    second_full _ _ _ _ (add_parts _) _ _ _ _ c.in-Next.ensures _
-    c.in_default-put_number.ensures
-
-pub put_bytes-requires-2 : goal.put_bytes-requires-2
-put_bytes-requires-2 c = next_room _ _ _ _ _ c.in-Next-put_number.ensures
+pub put_line-requires-clause-puts : goal.put_line-requires-clause-puts
+put_line-requires-clause-puts c = (digits_of c.args.number, λ o p r n h. search rules)
 
 pub returns : goal.returns
-returns c =
-    third _ _ _ _ (add_parts _) _ _ _ _ c.in-Next.ensures _ _
-    c.in-Next-put_number.ensures _ _ c.put_bytes-2.ensures
+returns c = rw (add_parts _).are (c.put_line.ensures (digits_of c.args.number) (λ o p r n h. search rules))

@@ -1,23 +1,12 @@
--- The line is written in three parts, of which each is written whole or not at all.
+-- The word is followed by the entries.
 -- Assumes nothing.
-use Rattle.reply.specs.SaidLaws.{first_full, second_full, third, next_room, clock_parts}
+use Rattle.std.proofs.Common.{rules}
+use Rattle.paper.specs.Text.{clock_text}
+use Rattle.reply.specs.SaidLaws.{clock_parts}
 use Rattle.reply.proofs.put_clock.Goals as goal
 
-pub returns-in_default : goal.returns-in_default
-returns-in_default c = first_full _ _ _ _ (clock_parts _) _ _ _ c.in_default.ensures
-
-pub put_clock-requires-clause-at_in_bounds : goal.put_clock-requires-clause-at_in_bounds
-put_clock-requires-clause-at_in_bounds c = next_room _ _ _ _ _ c.in-Next.ensures
-
-pub returns-in_default-put_clock : goal.returns-in_default-put_clock
-returns-in_default-put_clock c =
-    second_full _ _ _ _ (clock_parts _) _ _ _ _ c.in-Next.ensures _
-    c.in_default-put_clock.ensures
-
-pub put_bytes-requires-2 : goal.put_bytes-requires-2
-put_bytes-requires-2 c = next_room _ _ _ _ _ c.in-Next-put_clock.ensures
+pub put_line-requires-clause-puts : goal.put_line-requires-clause-puts
+put_line-requires-clause-puts c = (clock_text c.args.clock.now, λ o p r n h. search rules)
 
 pub returns : goal.returns
-returns c =
-    third _ _ _ _ (clock_parts _) _ _ _ _ c.in-Next.ensures _ _
-    c.in-Next-put_clock.ensures _ _ c.put_bytes-2.ensures
+returns c = rw (clock_parts _).are (c.put_line.ensures (clock_text c.args.clock.now) (λ o p r n h. search rules))

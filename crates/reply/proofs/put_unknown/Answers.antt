@@ -1,23 +1,12 @@
--- The line is written in three parts, of which each is written whole or not at all.
+-- The word and 4 are followed by the hash.
 -- Assumes nothing.
-use Rattle.reply.specs.SaidLaws.{first_full, second_full, third, next_room, unknown_parts}
+use Rattle.std.proofs.Common.{rules}
+use Rattle.paper.specs.Text.{hex_of}
+use Rattle.reply.specs.SaidLaws.{unknown_parts}
 use Rattle.reply.proofs.put_unknown.Goals as goal
 
-pub returns-in_default : goal.returns-in_default
-returns-in_default c = first_full _ _ _ _ (unknown_parts _) _ _ _ c.in_default.ensures
-
-pub put_hash-requires-clause-at_in_bounds : goal.put_hash-requires-clause-at_in_bounds
-put_hash-requires-clause-at_in_bounds c = next_room _ _ _ _ _ c.in-Next.ensures
-
-pub returns-in_default-put_hash : goal.returns-in_default-put_hash
-returns-in_default-put_hash c =
-    second_full _ _ _ _ (unknown_parts _) _ _ _ _ c.in-Next.ensures _
-    c.in_default-put_hash.ensures
-
-pub put_bytes-requires-2 : goal.put_bytes-requires-2
-put_bytes-requires-2 c = next_room _ _ _ _ _ c.in-Next-put_hash.ensures
+pub put_line-requires-clause-puts : goal.put_line-requires-clause-puts
+put_line-requires-clause-puts c = (hex_of c.args.hash.now, λ o p r n h. search rules)
 
 pub returns : goal.returns
-returns c =
-    third _ _ _ _ (unknown_parts _) _ _ _ _ c.in-Next.ensures _ _
-    c.in-Next-put_hash.ensures _ _ c.put_bytes-2.ensures
+returns c = rw (unknown_parts _).are (c.put_line.ensures (hex_of c.args.hash.now) (λ o p r n h. search rules))

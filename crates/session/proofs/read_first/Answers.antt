@@ -1,6 +1,6 @@
 -- The first line, and what the next line makes of the rest.
 -- Assumes nothing.
-use Rattle.std.proofs.Common.{sym, ◌∙◌}
+use Rattle.std.proofs.Common.{sym, ◌∙◌, ⊎_elim}
 use Rattle.session.specs.BeginLaws.{first_bad, then_open, then_long, then_end, then_line, line_inside, second_far}
 use Rattle.session.proofs.read_first.Goals as goal
 
@@ -14,10 +14,8 @@ pub returns-in-Whole : goal.returns-in-Whole
 returns-in-Whole c = then_line _ _ _ _ c.requires (sym c.is_header.ensures ∙ c.if-not-is_header.false) _ _ _ (sym c.in-Whole.ensures) c.read_second.result c.read_second.ensures
 
 pub returns-in-Unended : goal.returns-in-Unended
-returns-in-Unended c = then_open _ _ _ _ c.requires (sym c.is_header.ensures ∙ c.if-not-is_header.false) (sym c.in-Unended.ensures)
-
-pub returns-in-TooLong : goal.returns-in-TooLong
-returns-in-TooLong c = then_long _ _ _ _ c.requires (sym c.is_header.ensures ∙ c.if-not-is_header.false) (sym c.in-TooLong.ensures)
-
-pub returns-in-End : goal.returns-in-End
-returns-in-End c = then_end _ _ _ _ c.requires (sym c.is_header.ensures ∙ c.if-not-is_header.false) (sym c.in-End.ensures)
+returns-in-Unended c =
+    ⊎_elim
+    (λ e. then_open _ _ _ _ c.requires (sym c.is_header.ensures ∙ c.if-not-is_header.false) (sym c.line.ensures ∙ e))
+    (⊎_elim (λ e. then_long _ _ _ _ c.requires (sym c.is_header.ensures ∙ c.if-not-is_header.false) (sym c.line.ensures ∙ e)) (λ e. then_end _ _ _ _ c.requires (sym c.is_header.ensures ∙ c.if-not-is_header.false) (sym c.line.ensures ∙ e)))
+    c.in-Unended.is

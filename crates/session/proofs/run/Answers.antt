@@ -3,8 +3,8 @@
 use Rattle.session.specs.BeginLaws.{begun_asked, begun_bad}
 use Rattle.session.proofs.run.Goals as goal
 
-pub returns-in-Bad : goal.returns-in-Bad
-returns-in-Bad c = begun_bad _ _ _ c.read_begin.ensures _ _ _ _ c.in-Bad.is c.put_bad.ensures
+pub returns-in-Err : goal.returns-in-Err
+returns-in-Err c = begun_bad _ _ _ c.read_begin.ensures _ _ _ _ c.in-Err.is c.put_bad.ensures
 
-pub returns-in-Opens : goal.returns-in-Opens
-returns-in-Opens c = begun_asked _ _ _ c.read_begin.ensures _ _ _ _ _ c.in-Opens.is c.ask.ensures
+pub returns-in-Ok : goal.returns-in-Ok
+returns-in-Ok c = begun_asked _ _ _ c.read_begin.ensures _ _ _ _ c.in-Ok.is c.ask.ensures

@@ -7,19 +7,19 @@ use Rattle.session_line.proofs.owner_line.Goals as goal
 
 pub overflow_mul-p : goal.overflow_mul-p
 overflow_mul-p c =
-    let h = owner_room _ _ _ c.requires.valid _ (sym c.in-At.ensures) in omega (arith, h)
+    let h = owner_room _ _ _ c.requires.valid _ (sym c.in-Some.ensures) in omega (arith, h)
 
-pub overflow_add-e : goal.overflow_add-e
-overflow_add-e c =
-    let h = owner_room _ _ _ c.requires.valid _ (sym c.in-At.ensures) in omega (arith, h)
+pub overflow_add-p : goal.overflow_add-p
+overflow_add-p c =
+    let h = owner_room _ _ _ c.requires.valid _ (sym c.in-Some.ensures) in omega (arith, h)
 
 pub slice_bounds-put_owner-end : goal.slice_bounds-put_owner-end
 slice_bounds-put_owner-end c =
-    let h = owner_room _ _ _ c.requires.valid _ (sym c.in-At.ensures) in omega (arith, h)
+    let h = owner_room _ _ _ c.requires.valid _ (sym c.in-Some.ensures) in omega (arith, h)
 
-pub returns-in-At : goal.returns-in-At
-returns-in-At c = said_owner (tables c.args.hashes.now c.args.nodes.now c.args.targets.now c.args.nexts.now c.args.clocks.now c.args.counts.now) c.args.actor c.args.counter _ _ _ _ _ (sym c.in-At.ensures) c.put_owner.ensures
+pub returns-in-Some : goal.returns-in-Some
+returns-in-Some c = said_owner (tables c.args.tables.now.hashes.now c.args.tables.now.nodes.now c.args.tables.now.targets.now c.args.tables.now.nexts.now c.args.tables.now.clocks.now c.args.tables.now.counts.now) c.args.actor c.args.counter _ _ _ _ _ (sym c.in-Some.ensures) c.put_owner.ensures
 
-pub returns-in-Unknown : goal.returns-in-Unknown
-returns-in-Unknown c =
-    said_no_owner (tables c.args.hashes.now c.args.nodes.now c.args.targets.now c.args.nexts.now c.args.clocks.now c.args.counts.now) c.args.actor c.args.counter _ _ _ _ (sym c.in-Unknown.ensures) c.put_no_owner.ensures
+pub returns-in-None : goal.returns-in-None
+returns-in-None c =
+    said_no_owner (tables c.args.tables.now.hashes.now c.args.tables.now.nodes.now c.args.tables.now.targets.now c.args.tables.now.nexts.now c.args.tables.now.clocks.now c.args.tables.now.counts.now) c.args.actor c.args.counter _ _ _ _ (sym c.in-None.ensures) c.put_no_owner.ensures

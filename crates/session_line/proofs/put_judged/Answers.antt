@@ -4,11 +4,11 @@ use Rattle.std.proofs.Common.{sym}
 use Rattle.session_line.specs.AddedLaws.{said_unknown, said_number}
 use Rattle.session_line.proofs.put_judged.Goals as goal
 
-pub returns-in-First : goal.returns-in-First
-returns-in-First c =
-    said_unknown c.args.j _ _ _ _ _ _ (sym c.in-First.ensures) c.put_unknown.ensures
+pub returns-in-Some : goal.returns-in-Some
+returns-in-Some c =
+    said_unknown c.args.judged _ _ _ _ _ _ (sym c.in-Some.ensures) c.put_unknown.ensures
 
-pub returns-in-Nothing : goal.returns-in-Nothing
-returns-in-Nothing c =
-    said_number c.args.j _ _ _ _ _ _ (sym c.in-Nothing.ensures) c.number.ensures
+pub returns-in-None : goal.returns-in-None
+returns-in-None c =
+    said_number c.args.judged _ _ _ _ _ _ (sym c.in-None.ensures) c.number.ensures
     c.put_add.ensures
