@@ -1,8 +1,7 @@
 -- What the operations on a clock struct come to: the paper's number, the entries afterwards, and the yes or no that is told in a lent place.
 -- Assumes nothing.
-use Rattle.std.specs.Prelude.{◌≡◌, ℕ, List}
+use Rattle.std.specs.Prelude.{◌≡◌, Some, ℕ, Bool, List}
 use Rattle.clock_checked.specs.Told.{EntriesLeft, clock_number, SliceAsked, include_told, merge_told, isolate_told, covers_told}
-use Rattle.clock.specs.declared.Entry.TheVariants.{Sequence}
 
 pub record StructDone : Type 0 where
   pub number : ℕ
@@ -13,7 +12,7 @@ abbrev pub struct_done : ℕ → ℕ → List ℕ → StructDone
 struct_done r y c = record { number = r; yes = y; entries = c }
 
 -- merge and isolate have no yes or no: 0 stands there
-abbrev pub plain_of : EntriesLeft → StructDone
+abbrev pub plain_of : EntriesLeft (Unit {0}) → StructDone
 plain_of t = struct_done (clock_number t.answer) 0 t.entries
 
 abbrev pub merge_done : List ℕ → ℕ → List ℕ → ℕ → StructDone
@@ -23,7 +22,7 @@ abbrev pub isolate_done : List ℕ → ℕ → ℕ → StructDone
 isolate_done c n a = plain_of (isolate_told c n a)
 
 -- include says yes or no too, and comes to t: the number r, the place, which held l and holds l', and the entries c'
-pub record StructEntered (t : EntriesLeft) (l : List ℕ) (r : ℕ) (c' l' : List ℕ) : Type 0 where
+pub record StructEntered (t : EntriesLeft Bool) (l : List ℕ) (r : ℕ) (c' l' : List ℕ) : Type 0 where
   pub asked : SliceAsked t.answer l r l'
   pub entries : c' ≡ t.entries
 
@@ -31,7 +30,7 @@ pub record StructEntered (t : EntriesLeft) (l : List ℕ) (r : ℕ) (c' l' : Lis
 
 -- the sequence x entered at a place answers r; the lent place for the yes or no held l and holds l'
 abbrev pub ClockIncluded : List ℕ → ℕ → ℕ → ℕ → List ℕ → ℕ → List ℕ → ℕ → List ℕ → Type 0
-ClockIncluded c n place x l r c' n' l' = StructEntered (include_told c n place (Sequence x)) l r c' l' × (n' ≡ n)
+ClockIncluded c n place x l r c' n' l' = StructEntered (include_told c n place (Some x)) l r c' l' × (n' ≡ n)
 
 -- joined with the entries b, m of them in use
 abbrev pub ClockMerged : List ℕ → ℕ → List ℕ → ℕ → ℕ → List ℕ → ℕ → Type 0

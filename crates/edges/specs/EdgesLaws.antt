@@ -1,7 +1,7 @@
 -- Laws on the records and the two plain tables: copying goes on edge by edge, and there and back again nothing is lost.
 -- Assumes nothing.
 use Rattle.std.specs.Prelude.{◌≡◌, refl, List, [], ◌∷◌, ◌++◌, map, ℕ, zero, suc, ◌+◌, ◌≤◌, ◌<◌, min, length, get_or, set, take, drop}
-use Rattle.std.proofs.Common.{sym, ap, ap₂, ◌∙◌, append-nil, not-suc-le-zero, le_of_suc-le-suc, add-one, arith, take-append-drop, drop_of_length-le, take_all}
+use Rattle.std.proofs.Common.{sym, ap, ap₂, ◌∙◌, not-suc-le-zero, le_of_suc-le-suc, add-one, arith, take-append-drop, append-nil, drop_of_length-le, take_all}
 use Rattle.std.proofs.lemmas.List.{map-append, length-map}
 use Rattle.std.proofs.Math.ListN.{get_or-map}
 use Rattle.edges.specs.Edges.{edge, no_edge, targets_of, nexts_of, edges_of, common, onto, taken_targets, taken_nexts, packed}
@@ -44,10 +44,6 @@ module _ {A : Type 0} where
   -- a table copied onto itself
   pub onto_same : (i : ℕ) (ts : List A) → onto i ts ts ≡ ts
   onto_same i ts = take-append-drop i ts
-
-  -- all of it is copied
-  pub onto_all : (i : ℕ) (ss ts : List A) → length ss ≤ i → length ts ≤ i → onto i ss ts ≡ ss
-  onto_all i ss ts p r = rw (take_all i ss p, drop_of_length-le ts {i = i} r) (append-nil ss)
 
 -- ---- records and tables
 
@@ -167,59 +163,68 @@ pack_after_unpack es ts xs =
 
 -- ---- the loops
 
--- where unpacking stands after i edges, with j left
-pub record Unpacking (es : List Edge) (ts₀ xs₀ : List ℕ) (i j : ℕ) (ts xs : List ℕ) : Type 0 where
-  pub sum : i + j ≡ common es ts₀ xs₀
+-- where unpacking stands after i edges
+pub record Unpacking (es : List Edge) (ts₀ xs₀ : List ℕ) (i : ℕ) (ts xs : List ℕ) : Type 0 where
+  pub low : i ≤ common es ts₀ xs₀
   pub targets : ts ≡ onto i (targets_of es) ts₀
   pub nexts : xs ≡ onto i (nexts_of es) xs₀
 
-pub unpacking_start : (es : List Edge) (ts₀ xs₀ : List ℕ) → Unpacking es ts₀ xs₀ 0 (common es ts₀ xs₀) ts₀ xs₀
-unpacking_start es ts₀ xs₀ = record { sum = omega arith; targets = refl; nexts = refl }
-
-module _ (es : List Edge) (ts₀ xs₀ : List ℕ) (i j : ℕ) (ts xs : List ℕ) (st : Unpacking es ts₀ xs₀ i j ts xs) where
-  pub unpacking_targets : length ts ≡ length ts₀
-  unpacking_targets = let s = st.sum in let l = targets_long es in ap length st.targets ∙ onto_long i (targets_of es) ts₀ (omega arith) (omega arith)
-
-  pub unpacking_nexts : length xs ≡ length xs₀
-  unpacking_nexts = let s = st.sum in let l = nexts_long es in ap length st.nexts ∙ onto_long i (nexts_of es) xs₀ (omega arith) (omega arith)
-
-  pub unpacking_next : i < common es ts₀ xs₀ → (k : ℕ) → j ≡ suc k → (ts' xs' : List ℕ) → (ts' ≡ set ts i (get_or es i no_edge).target) × (xs' ≡ set xs i (get_or es i no_edge).next) → Unpacking es ts₀ xs₀ (i + 1) k ts' xs'
-  unpacking_next less k e ts' xs' u =
+module _ {es : List Edge} {ts₀ xs₀ : List ℕ} {i : ℕ} {ts xs : List ℕ} (st : Unpacking es ts₀ xs₀ i ts xs) where
+  pub unpacking_next : i < common es ts₀ xs₀ → {ts' xs' : List ℕ} → ts' ≡ set ts i (get_or es i no_edge).target → xs' ≡ set xs i (get_or es i no_edge).next → Unpacking es ts₀ xs₀ (i + 1) ts' xs'
+  unpacking_next less p q =
       let l = targets_long es in
       let l' = nexts_long es in record {
-        sum = omega (arith, st.sum);
-        targets = u.0 ∙ ap₂ (λ (l : List ℕ) (v : ℕ). set l i v) st.targets (target_at es i) ∙ onto_more 0 i (targets_of es) ts₀ (omega arith) (omega arith);
-        nexts = u.1 ∙ ap₂ (λ (l : List ℕ) (v : ℕ). set l i v) st.nexts (next_at es i) ∙ onto_more 0 i (nexts_of es) xs₀ (omega arith) (omega arith);
+        low = omega arith;
+        targets = p ∙ ap₂ (λ (l : List ℕ) (v : ℕ). set l i v) st.targets (target_at es i) ∙ onto_more 0 i (targets_of es) ts₀ (omega arith) (omega arith);
+        nexts = q ∙ ap₂ (λ (l : List ℕ) (v : ℕ). set l i v) st.nexts (next_at es i) ∙ onto_more 0 i (nexts_of es) xs₀ (omega arith) (omega arith);
       }
 
-  pub unpacking_end : common es ts₀ xs₀ ≤ i → (ts ≡ onto (common es ts₀ xs₀) (targets_of es) ts₀) × (xs ≡ onto (common es ts₀ xs₀) (nexts_of es) xs₀)
-  unpacking_end l =
-      let e : i ≡ common es ts₀ xs₀ = omega (arith, st.sum) in
-      (st.targets ∙ ap (λ (n : ℕ). onto n (targets_of es) ts₀) e, st.nexts ∙ ap (λ (n : ℕ). onto n (nexts_of es) xs₀) e)
-
--- where packing stands after i edges, with j left
-pub record Packing (ts xs : List ℕ) (es₀ : List Edge) (i j : ℕ) (es : List Edge) : Type 0 where
-  pub sum : i + j ≡ common es₀ ts xs
+-- where packing stands after i edges
+pub record Packing (ts xs : List ℕ) (es₀ : List Edge) (i : ℕ) (es : List Edge) : Type 0 where
+  pub low : i ≤ common es₀ ts xs
   pub records : es ≡ onto i (edges_of ts xs) es₀
 
-pub packing_start : (ts xs : List ℕ) (es₀ : List Edge) → Packing ts xs es₀ 0 (common es₀ ts xs) es₀
-packing_start ts xs es₀ = record { sum = omega arith; records = refl }
-
-module _ (ts xs : List ℕ) (es₀ : List Edge) (i j : ℕ) (es : List Edge) (st : Packing ts xs es₀ i j es) where
-  pub packing_long : length es ≡ length es₀
-  packing_long = let s = st.sum in let l = edges_long ts xs in ap length st.records ∙ onto_long i (edges_of ts xs) es₀ (omega arith) (omega arith)
-
-  pub packing_next : i < common es₀ ts xs → (k : ℕ) → j ≡ suc k → (es' : List Edge) → es' ≡ set es i (edge (get_or ts i 0) (get_or xs i 0)) → Packing ts xs es₀ (i + 1) k es'
-  packing_next less k e es' u =
+module _ {ts xs : List ℕ} {es₀ : List Edge} {i : ℕ} {es : List Edge} (st : Packing ts xs es₀ i es) where
+  pub packing_next : i < common es₀ ts xs → {es' : List Edge} → es' ≡ set es i (edge (get_or ts i 0) (get_or xs i 0)) → Packing ts xs es₀ (i + 1) es'
+  packing_next less u =
       let l = edges_long ts xs in record {
-        sum = omega (arith, st.sum);
+        low = omega arith;
         records = u ∙ ap₂ (λ (l : List Edge) (v : Edge). set l i v) st.records (edge_at ts xs i (omega arith) (omega arith)) ∙ onto_more no_edge i (edges_of ts xs) es₀ (omega arith) (omega arith);
       }
-
-  pub packing_end : common es₀ ts xs ≤ i → es ≡ onto (common es₀ ts xs) (edges_of ts xs) es₀
-  packing_end l = let e : i ≡ common es₀ ts xs = omega (arith, st.sum) in st.records ∙ ap (λ (n : ℕ). onto n (edges_of ts xs) es₀) e
 
 -- a number above 0 has one before it
 pub one_less : (n : ℕ) → 0 < n → (k : ℕ) × (n ≡ suc k)
 one_less zero p = absurd (omega arith)
 one_less (suc k) p = (k, refl)
+
+-- ---- laws that no proof needs any more
+
+module _ {A : Type 0} where
+  -- all of it is copied
+  pub onto_all : (i : ℕ) (ss ts : List A) → length ss ≤ i → length ts ≤ i → onto i ss ts ≡ ss
+  onto_all i ss ts p r = rw (take_all i ss p, drop_of_length-le ts {i = i} r) (append-nil ss)
+
+pub unpacking_start : (es : List Edge) (ts₀ xs₀ : List ℕ) → Unpacking es ts₀ xs₀ 0 ts₀ xs₀
+unpacking_start es ts₀ xs₀ = record { low = omega arith; targets = refl; nexts = refl }
+
+module _ (es : List Edge) (ts₀ xs₀ : List ℕ) (i : ℕ) (ts xs : List ℕ) (st : Unpacking es ts₀ xs₀ i ts xs) where
+  pub unpacking_targets : length ts ≡ length ts₀
+  unpacking_targets = let s = st.low in let l = targets_long es in ap length st.targets ∙ onto_long i (targets_of es) ts₀ (omega arith) (omega arith)
+
+  pub unpacking_nexts : length xs ≡ length xs₀
+  unpacking_nexts = let s = st.low in let l = nexts_long es in ap length st.nexts ∙ onto_long i (nexts_of es) xs₀ (omega arith) (omega arith)
+
+  pub unpacking_end : common es ts₀ xs₀ ≤ i → (ts ≡ onto (common es ts₀ xs₀) (targets_of es) ts₀) × (xs ≡ onto (common es ts₀ xs₀) (nexts_of es) xs₀)
+  unpacking_end l =
+      let e : i ≡ common es ts₀ xs₀ = omega (arith, st.low) in
+      (st.targets ∙ ap (λ (n : ℕ). onto n (targets_of es) ts₀) e, st.nexts ∙ ap (λ (n : ℕ). onto n (nexts_of es) xs₀) e)
+
+pub packing_start : (ts xs : List ℕ) (es₀ : List Edge) → Packing ts xs es₀ 0 es₀
+packing_start ts xs es₀ = record { low = omega arith; records = refl }
+
+module _ (ts xs : List ℕ) (es₀ : List Edge) (i : ℕ) (es : List Edge) (st : Packing ts xs es₀ i es) where
+  pub packing_long : length es ≡ length es₀
+  packing_long = let s = st.low in let l = edges_long ts xs in ap length st.records ∙ onto_long i (edges_of ts xs) es₀ (omega arith) (omega arith)
+
+  pub packing_end : common es₀ ts xs ≤ i → es ≡ onto (common es₀ ts xs) (edges_of ts xs) es₀
+  packing_end l = let e : i ≡ common es₀ ts xs = omega (arith, st.low) in st.records ∙ ap (λ (n : ℕ). onto n (edges_of ts xs) es₀) e

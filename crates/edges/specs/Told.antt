@@ -1,5 +1,5 @@
--- An operation over the records, by way of a core over two plain tables of fixed room that is told how many edges there are.
--- What the core promises. That the operation then promises the same of the tables that the records are stands in proofs/Told.antt.
+-- An operation over the records, by way of two plain tables of fixed room of which the first e edges are in use.
+-- What is promised of them. That the operation then promises the same of the tables that the records are stands in proofs/Told.antt.
 -- Assumes nothing.
 use Rattle.std.specs.Prelude.{◌≡◌, refl, ◌⊎◌, List, [], ◌∷◌, ◌++◌, ℕ, ◌≤◌, ◌<◌, length, take, drop}
 use Rattle.std.proofs.Common.{sym, ap, subst, ⊎_elim, arith}
@@ -72,7 +72,7 @@ module _ (P : Tables → Type 0) (bounding : Bounding P) (t : Tables) (l : 16384
   pub answered_refused : (Q : Tables → Type 0) (refused : Type 0) → refused → Answered P Q refused t
   answered_refused Q refused o = record { met = λ v. absurd (too_many v); unmet = λ _. o }
 
--- ---- how a core that is told of e edges keeps its promise: it hands the first e of each table on
+-- ---- how a promise over the first e edges is kept: the first e of each table are handed on
 
 module _ (R : Tables → ℕ → Tables → Type 0) (e : ℕ) where
   pub told_none : (t : Tables) → (length t.targets < e) ⊎ (length t.nexts < e) → OverFirst R e t (number not_valid) t

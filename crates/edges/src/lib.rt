@@ -2,8 +2,8 @@
 // The cores work on two plain tables; `unpack` and `pack` go between the two forms, and `parents_into` walks the records themselves.
 #![tactic(auto)]
 
-ghost use Rattle.std.specs.Prelude.{◌≡◌, ◌++◌, ℕ, ◌<◌, ◌≤◌, ◌-◌, min, length, set, get_or, drop};
-ghost use Rattle.edges.specs.Edges.{no_edge, edge, taken_targets, taken_nexts, packed, goes_on, parents_in};
+ghost use Rattle.std.specs.Prelude.{◌≡◌, ◌++◌, ℕ, ◌<◌, ◌≤◌, ◌-◌, min, length, set, get_or, drop, IfSome, IfNone};
+ghost use Rattle.edges.specs.Edges.{no_edge, targets_of, nexts_of, local_room, blank, taken_targets, taken_nexts, packed, goes_on, parents_in};
 
 // An edge: the node that it leads to, and the number + 1 of the next edge of its list, or 0 at the end.
 #[repr(C)]
@@ -13,63 +13,41 @@ pub struct Edge {
     pub next: u32,
 }
 
-// The least of three lengths.
-fn least(e: usize, t: usize, x: usize) -> usize
-    ensures { result ≡ min e (min t x) }
-{
-    if e <= t {
-        if e <= x {
-            return e;
-        }
-        return x;
-    }
-    if t <= x {
-        return t;
-    }
-    x
-}
-
-// One edge goes into the two tables.
-fn take_out(edges: &[Edge], targets: &mut [u32], nexts: &mut [u32], i: usize)
-    requires { (i < length edges.now) × (i < length targets.old) × (i < length nexts.old) }
-    ensures { (targets.new ≡ set targets.old i (get_or edges.now i no_edge).target) × (nexts.new ≡ set nexts.old i (get_or edges.now i no_edge).next) }
-{
-    targets[i] = edges[i].target;
-    nexts[i] = edges[i].next;
-}
-
 // The records' targets and nexts, as many as all three tables have room for. What lies past them stays.
 pub fn unpack(edges: &[Edge], targets: &mut [u32], nexts: &mut [u32])
     ensures { (targets.new ≡ taken_targets edges.now targets.old nexts.old) × (nexts.new ≡ taken_nexts edges.now targets.old nexts.old) }
 {
-    let m = least(edges.len(), targets.len(), nexts.len());
-    let mut i: usize = 0;
-    while i < m {
-        take_out(edges, targets, nexts, i);
-        i += 1;
+    let m = edges.len().min(targets.len().min(nexts.len()));
+    for i in 0..m {
+        targets[i] = edges[i].target;
+        nexts[i] = edges[i].next;
     }
 }
 
-// One edge goes back out of the two tables.
-fn put_in(edges: &mut [Edge], targets: &[u32], nexts: &[u32], i: usize)
-    requires { (i < length edges.old) × (i < length targets.now) × (i < length nexts.now) }
-    ensures { edges.new ≡ set edges.old i (edge (get_or targets.now i 0) (get_or nexts.now i 0)) }
+// Of two tables that the records were unpacked into, the targets and the nexts of all records, or None where these are more than the room.
+pub fn unpacked<'a>(
+    edges: &[Edge],
+    targets: &'a [u32],
+    nexts: &'a [u32],
+) -> Option<(&'a [u32], &'a [u32])>
+    requires { (targets.now ≡ taken_targets edges.now blank blank) × (nexts.now ≡ taken_nexts edges.now blank blank) }
+    ensures some { IfSome result (λ parts. (parts.0.now ≡ targets_of edges.now) × (parts.1.now ≡ nexts_of edges.now)) }
+    ensures none { IfNone result (local_room < length edges.now) }
 {
-    edges[i] = Edge {
-        target: targets[i],
-        next: nexts[i],
-    };
+    let e = edges.len();
+    Some((targets.get(..e)?, nexts.get(..e)?))
 }
 
 // The two tables as records, as many as all three tables have room for. What lies past them stays.
 pub fn pack(targets: &[u32], nexts: &[u32], edges: &mut [Edge])
     ensures { edges.new ≡ packed targets.now nexts.now edges.old }
 {
-    let m = least(edges.len(), targets.len(), nexts.len());
-    let mut i: usize = 0;
-    while i < m {
-        put_in(edges, targets, nexts, i);
-        i += 1;
+    let m = edges.len().min(targets.len().min(nexts.len()));
+    for i in 0..m {
+        edges[i] = Edge {
+            target: targets[i],
+            next: nexts[i],
+        };
     }
 }
 
@@ -77,16 +55,7 @@ pub fn pack(targets: &[u32], nexts: &[u32], edges: &mut [Edge])
 fn more(at: u32, n: usize, edges: usize, out: usize) -> bool
     ensures { result ≡ goes_on at n edges out }
 {
-    if at == 0 {
-        return false;
-    }
-    if edges < at as usize {
-        return false;
-    }
-    if edges <= n {
-        return false;
-    }
-    n < out
+    at != 0 && at as usize <= edges && n < edges && n < out
 }
 
 // One step along next, with the target put down.
@@ -106,6 +75,7 @@ pub fn parents_into(edges: &[Edge], first: u32, out: &mut [u32]) -> usize
 {
     let mut at = first;
     let mut n: usize = 0;
+    // A walk along the links, which ends where a test of them fails: no count is known before, so no `for` is plainer.
     while more(at, n, edges.len(), out.len()) {
         at = step(edges, at, out, n);
         n += 1;

@@ -1,17 +1,15 @@
 // Actors in and out through the C face, over edge records. Each operation checks what it is lent: it has no `requires`.
-// An operation comes in three: `X_checked` checks the tables and calls the core; `X_told` does so with the first e edges of two larger tables;
-// `cg_X` unpacks the records into two such tables and calls `X_told`. No edge changes, so nothing is packed again.
+// `cg_X` unpacks the records; `X_checked` checks the tables and calls the core. No edge changes.
+// `X_checked` stands apart for the reason that `hub_forget` gives.
+// Tables that are written are taken one by one: two `&mut` of one struct are lent in no call that the borrow checker covers (tried in `graph::store`).
 #![tactic(auto)]
 
-ghost use Rattle.std.specs.Prelude.{◌≡◌, true, ◌↔◌};
-ghost use Rattle.paper.specs.Numbers.{number, not_valid};
 ghost use Rattle.tables.specs.Tables.{tables};
-ghost use Rattle.tables.specs.Valid.{Valid};
 ghost use Rattle.edges.specs.Edges.{lent};
-ghost use Rattle.edges.specs.Told.{AskedOverFirst};
 ghost use Rattle.hub_actors.specs.Operations.{Inserted, Removed};
 
 use edges::Edge;
+use tables::Tables;
 
 // Puts an actor in at the place.
 fn insert_checked(
@@ -25,40 +23,18 @@ fn insert_checked(
 ) -> u32
     ensures { Inserted place result nodes.new clocks.new counts.new (tables hashes.now nodes.old targets.now nexts.now clocks.old counts.old) }
 {
-    if !cache::valid(hashes, nodes, targets, nexts, clocks, counts) {
-        return 1;
-    }
-    let j = actors::insert_actor(hashes, nodes, targets, nexts, clocks, counts, place);
-    actors::number(j)
-}
-
-fn insert_told(
-    hashes: &[u8],
-    nodes: &mut [u32],
-    targets: &[u32],
-    nexts: &[u32],
-    e: usize,
-    clocks: &mut [u32],
-    counts: &mut [u32],
-    place: u64,
-) -> u32
-    ensures { AskedOverFirst (Inserted place result nodes.new clocks.new counts.new) ((result ≡ number not_valid) × (nodes.new ≡ nodes.old) × (clocks.new ≡ clocks.old) × (counts.new ≡ counts.old)) e (tables hashes.now nodes.old targets.now nexts.now clocks.old counts.old) }
-{
-    if targets.len() < e {
-        return 1;
-    }
-    if nexts.len() < e {
-        return 1;
-    }
-    insert_checked(
+    if !cache::valid(&Tables {
         hashes,
         nodes,
-        &targets[..e],
-        &nexts[..e],
+        targets,
+        nexts,
         clocks,
         counts,
-        place,
-    )
+    }) {
+        return 1;
+    }
+    let inserted = actors::insert_actor(hashes, nodes, targets, nexts, clocks, counts, place);
+    actors::number(inserted)
 }
 
 #[unsafe(no_mangle)]
@@ -74,9 +50,11 @@ pub extern "C" fn cg_insert_actor(
 {
     let mut targets = [0u32; 16384];
     let mut nexts = [0u32; 16384];
-    let e = edges.len();
     edges::unpack(edges, &mut targets, &mut nexts);
-    insert_told(hashes, nodes, &targets, &nexts, e, clocks, counts, place)
+    let Some((targets, nexts)) = edges::unpacked(edges, &targets, &nexts) else {
+        return 1;
+    };
+    insert_checked(hashes, nodes, targets, nexts, clocks, counts, place)
 }
 
 // Takes the actor at the place away.
@@ -91,40 +69,18 @@ fn remove_checked(
 ) -> u32
     ensures { Removed place result nodes.new clocks.new counts.new (tables hashes.now nodes.old targets.now nexts.now clocks.old counts.old) }
 {
-    if !cache::valid(hashes, nodes, targets, nexts, clocks, counts) {
-        return 1;
-    }
-    let j = actors::remove_actor(hashes, nodes, targets, nexts, clocks, counts, place);
-    actors::number(j)
-}
-
-fn remove_told(
-    hashes: &[u8],
-    nodes: &mut [u32],
-    targets: &[u32],
-    nexts: &[u32],
-    e: usize,
-    clocks: &mut [u32],
-    counts: &mut [u32],
-    place: u64,
-) -> u32
-    ensures { AskedOverFirst (Removed place result nodes.new clocks.new counts.new) ((result ≡ number not_valid) × (nodes.new ≡ nodes.old) × (clocks.new ≡ clocks.old) × (counts.new ≡ counts.old)) e (tables hashes.now nodes.old targets.now nexts.now clocks.old counts.old) }
-{
-    if targets.len() < e {
-        return 1;
-    }
-    if nexts.len() < e {
-        return 1;
-    }
-    remove_checked(
+    if !cache::valid(&Tables {
         hashes,
         nodes,
-        &targets[..e],
-        &nexts[..e],
+        targets,
+        nexts,
         clocks,
         counts,
-        place,
-    )
+    }) {
+        return 1;
+    }
+    let removed = actors::remove_actor(hashes, nodes, targets, nexts, clocks, counts, place);
+    actors::number(removed)
 }
 
 #[unsafe(no_mangle)]
@@ -140,7 +96,9 @@ pub extern "C" fn cg_remove_actor(
 {
     let mut targets = [0u32; 16384];
     let mut nexts = [0u32; 16384];
-    let e = edges.len();
     edges::unpack(edges, &mut targets, &mut nexts);
-    remove_told(hashes, nodes, &targets, &nexts, e, clocks, counts, place)
+    let Some((targets, nexts)) = edges::unpacked(edges, &targets, &nexts) else {
+        return 1;
+    };
+    remove_checked(hashes, nodes, targets, nexts, clocks, counts, place)
 }

@@ -1,14 +1,14 @@
 -- What adding a change comes to, of the lent tables before and after.
 -- Assumes nothing.
-use Rattle.std.specs.Prelude.{◌≡◌, refl, List, ℕ, ◌<◌}
+use Rattle.std.specs.Prelude.{◌≡◌, refl, List, ℕ, ◌<◌, Ok, Err}
 use Rattle.paper.specs.Numbers.{number, not_valid}
 use Rattle.paper.specs.Adding.{Change}
 use Rattle.tables.specs.Tables.{Tables, edge_room_of}
 use Rattle.tables.specs.Valid.{Valid}
 use Rattle.judge.specs.Judge.{tables_judged, judged_number}
 use Rattle.graph.specs.Place.{added_tables}
-use Rattle.judge.specs.declared.Judged.{Judged}
-use Rattle.judge.specs.declared.Judged.TheVariants.{Done, Malformed, Known, Unknown, NoActor, WrongSequence, BadOps, TooManyDeps, NoNodeRoom, NoEdgeRoom}
+use Rattle.judge.specs.Judged.{Judged}
+use Rattle.judge.specs.declared.AddRefusal.TheVariants.{Malformed, Known, Unknown, NoActor, WrongSequence, BadOps, TooManyDeps, NoNodeRoom, NoEdgeRoom}
 use Rattle.edges.specs.Told.{Checked, Answered, valid_bounding, checked_refused, answered_refused}
 use Rattle.lent_place.specs.Places.{told_in}
 
@@ -21,16 +21,16 @@ add_tables x t = added_tables t x
 
 -- the place for the unknown dependency afterwards: its position in the list where there is one, and else what stood there
 abbrev pub unknown_in : Judged → List ℕ → List ℕ
-unknown_in (Unknown i) l = told_in i l
-unknown_in Done l = l
-unknown_in Malformed l = l
-unknown_in Known l = l
-unknown_in NoActor l = l
-unknown_in WrongSequence l = l
-unknown_in BadOps l = l
-unknown_in TooManyDeps l = l
-unknown_in NoNodeRoom l = l
-unknown_in NoEdgeRoom l = l
+unknown_in (Err (Unknown i)) l = told_in i l
+unknown_in (Ok tt) l = l
+unknown_in (Err Malformed) l = l
+unknown_in (Err Known) l = l
+unknown_in (Err NoActor) l = l
+unknown_in (Err WrongSequence) l = l
+unknown_in (Err BadOps) l = l
+unknown_in (Err TooManyDeps) l = l
+unknown_in (Err NoNodeRoom) l = l
+unknown_in (Err NoEdgeRoom) l = l
 
 -- adding the change to the tables t answers r and leaves t', and the place for the unknown dependency, which held l, holds l'
 pub record Added (x : Change) (l l' : List ℕ) (t : Tables) (r : ℕ) (t' : Tables) : Type 0 where

@@ -1,34 +1,26 @@
 // Adding a change through the C face, over edge records. It checks what it is lent: it has no `requires`.
-// `add_checked` checks the tables and calls the core; `add_told` does so with the first e edges of two larger tables;
-// `cg_add` unpacks the records into two such tables, calls `add_told`, and packs them again.
+// `cg_add` unpacks the records and packs them again; between the two `add_checked` checks the tables and calls the core.
+// `add_checked` stands apart: the first edges of two local tables are lent to it by `&mut`, and packed again after it.
+// Tables that are written are taken one by one: two `&mut` of one struct are lent in no call that the borrow checker covers (tried in `graph::store`).
 #![tactic(auto)]
 
-ghost use Rattle.std.specs.Prelude.{◌≡◌, true, ◌↔◌};
+ghost use Rattle.std.specs.Prelude.{◌≡◌};
 ghost use Rattle.tables.specs.Tables.{tables};
-ghost use Rattle.tables.specs.Valid.{Valid};
 ghost use Rattle.judge.specs.Judge.{change};
+ghost use Rattle.judge.specs.Judged.{lent_change};
 ghost use Rattle.edges.specs.Edges.{lent};
-ghost use Rattle.edges.specs.Told.{OverFirst, Beyond};
 ghost use Rattle.hub_add.specs.Operations.{Added, unknown_in};
 
 use edges::Edge;
-use judge::Judged;
+use judge::{AddRefusal, Change};
+use tables::Tables;
 
 // Tells the position of the first unknown dependency, where there is one.
-fn tell_unknown(j: Judged, unknown: &mut [u64])
-    ensures { unknown.new ≡ unknown_in j unknown.old }
+fn tell_unknown(judged: Result<(), AddRefusal>, unknown: &mut [u64])
+    ensures { unknown.new ≡ unknown_in judged unknown.old }
 {
-    match j {
-        Judged::Unknown(i) => lent_place::tell(unknown, i as u64),
-        Judged::Done => {}
-        Judged::Malformed => {}
-        Judged::Known => {}
-        Judged::NoActor => {}
-        Judged::WrongSequence => {}
-        Judged::BadOps => {}
-        Judged::TooManyDeps => {}
-        Judged::NoNodeRoom => {}
-        Judged::NoEdgeRoom => {}
+    if let Err(AddRefusal::Unknown(i)) = judged {
+        lent_place::tell(unknown, i as u64);
     }
 }
 
@@ -40,66 +32,24 @@ fn add_checked(
     nexts: &mut [u32],
     clocks: &mut [u32],
     counts: &mut [u32],
-    hash: &[u8],
-    actor: u64,
-    seq: u64,
-    max: u64,
-    ops: u64,
-    deps: &[u8],
+    added: &Change,
     unknown: &mut [u64],
 ) -> u32
-    ensures { Added (change hash.now actor seq max ops deps.now) unknown.old unknown.new (tables hashes.old nodes.old targets.old nexts.old clocks.old counts.old) result (tables hashes.new nodes.new targets.new nexts.new clocks.new counts.new) }
+    ensures { Added (lent_change added.now) unknown.old unknown.new (tables hashes.old nodes.old targets.old nexts.old clocks.old counts.old) result (tables hashes.new nodes.new targets.new nexts.new clocks.new counts.new) }
 {
-    if !cache::valid(hashes, nodes, targets, nexts, clocks, counts) {
-        return 1;
-    }
-    let j = graph::add(
-        hashes, nodes, targets, nexts, clocks, counts, hash, actor, seq, max, ops, deps,
-    );
-    tell_unknown(j, unknown);
-    judge::number(j)
-}
-
-fn add_told(
-    hashes: &mut [u8],
-    nodes: &mut [u32],
-    targets: &mut [u32],
-    nexts: &mut [u32],
-    e: usize,
-    clocks: &mut [u32],
-    counts: &mut [u32],
-    hash: &[u8],
-    actor: u64,
-    seq: u64,
-    max: u64,
-    ops: u64,
-    deps: &[u8],
-    unknown: &mut [u64],
-) -> u32
-    ensures { OverFirst (Added (change hash.now actor seq max ops deps.now) unknown.old unknown.new) e (tables hashes.old nodes.old targets.old nexts.old clocks.old counts.old) result (tables hashes.new nodes.new targets.new nexts.new clocks.new counts.new)
-        × (Beyond e (tables hashes.old nodes.old targets.old nexts.old clocks.old counts.old) → unknown.new ≡ unknown.old) }
-{
-    if targets.len() < e {
-        return 1;
-    }
-    if nexts.len() < e {
-        return 1;
-    }
-    add_checked(
+    if !cache::valid(&Tables {
         hashes,
         nodes,
-        &mut targets[..e],
-        &mut nexts[..e],
+        targets,
+        nexts,
         clocks,
         counts,
-        hash,
-        actor,
-        seq,
-        max,
-        ops,
-        deps,
-        unknown,
-    )
+    }) {
+        return 1;
+    }
+    let judged = graph::add(hashes, nodes, targets, nexts, clocks, counts, added);
+    tell_unknown(judged, unknown);
+    judge::number(judged)
 }
 
 #[unsafe(no_mangle)]
@@ -119,24 +69,29 @@ pub extern "C" fn cg_add(
 ) -> u32
     ensures { Added (change hash.now actor seq max ops deps.now) unknown.old unknown.new (lent hashes.old nodes.old edges.old clocks.old counts.old) result (lent hashes.new nodes.new edges.new clocks.new counts.new) }
 {
-    let mut targets = [0u32; 16384];
-    let mut nexts = [0u32; 16384];
     let e = edges.len();
-    edges::unpack(edges, &mut targets, &mut nexts);
-    let r = add_told(
-        hashes,
-        nodes,
-        &mut targets,
-        &mut nexts,
-        e,
-        clocks,
-        counts,
+    if 16384 < e {
+        return 1;
+    }
+    let change = Change {
         hash,
         actor,
         seq,
-        max,
+        max_op: max,
         ops,
         deps,
+    };
+    let mut targets = [0u32; 16384];
+    let mut nexts = [0u32; 16384];
+    edges::unpack(edges, &mut targets, &mut nexts);
+    let r = add_checked(
+        hashes,
+        nodes,
+        &mut targets[..e],
+        &mut nexts[..e],
+        clocks,
+        counts,
+        &change,
         unknown,
     );
     edges::pack(&targets, &nexts, edges);

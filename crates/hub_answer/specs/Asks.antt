@@ -1,17 +1,14 @@
 -- What a public question promises: of the lent tables, its answer buffer, and the place for how much the answer takes.
 -- Assumes nothing.
-use Rattle.std.specs.Prelude.{◌≡◌, Bool, cond, List, [], ℕ}
+use Rattle.std.specs.Prelude.{◌≡◌, Bool, cond, Ok, Err, List, [], ℕ}
 use Rattle.paper.specs.Numbers.{Outcome, number, done, not_valid, malformed, not_found, no_owner, short_buffer}
 use Rattle.tables.specs.Tables.{Tables}
 use Rattle.tables.specs.Valid.{Valid}
 use Rattle.lent_place.specs.Places.{told_in}
 use Rattle.edges.specs.Told.{Answered}
-use Rattle.answer_buffer.specs.declared.Place.{Place}
-use Rattle.answer_buffer.specs.declared.Place.TheVariants.{At, Malformed as NoPlace, NotFound as Nowhere}
-use Rattle.answer_buffer.specs.declared.YesNo.{YesNo}
-use Rattle.answer_buffer.specs.declared.YesNo.TheVariants.{Yes, No, Malformed as Untold}
-use Rattle.answer_buffer.specs.declared.Listed.{Listed}
-use Rattle.answer_buffer.specs.declared.Listed.TheVariants.{Done, Malformed, NotFound, NoOwner, Short}
+use Rattle.answer_buffer.specs.Answers.{Place, YesNo, Listed}
+use Rattle.answer_buffer.specs.declared.Refusal.{Refusal}
+use Rattle.answer_buffer.specs.declared.Refusal.TheVariants.{Malformed, NotFound, NoOwner, Short}
 
 -- what a question comes to
 pub data Reply : Type 0 where
@@ -30,23 +27,24 @@ abbrev pub told_by : Reply → List ℕ → List ℕ
 told_by (gives n) told = told_in n told
 told_by (refuses o) told = told
 
+-- the paper's name of a refusal
+abbrev pub outcome_of : Refusal → Outcome
+outcome_of Malformed = malformed
+outcome_of NotFound = not_found
+outcome_of NoOwner = no_owner
+outcome_of Short = short_buffer
+
 -- the answers of the questions as replies
 abbrev pub of_listed : Listed → Reply
-of_listed (Done n) = gives n
-of_listed Malformed = refuses malformed
-of_listed NotFound = refuses not_found
-of_listed NoOwner = refuses no_owner
-of_listed Short = refuses short_buffer
+of_listed (Ok n) = gives n
+of_listed (Err r) = refuses (outcome_of r)
 
 abbrev pub of_place : Place → Reply
-of_place (At k) = gives k
-of_place NoPlace = refuses malformed
-of_place Nowhere = refuses not_found
+of_place p = of_listed p
 
 abbrev pub of_yes_no : YesNo → Reply
-of_yes_no Yes = gives 1
-of_yes_no No = gives 0
-of_yes_no Untold = refuses malformed
+of_yes_no (Ok b) = gives (cond b 1 0)
+of_yes_no (Err r) = refuses (outcome_of r)
 
 abbrev pub of_bool : Bool → Reply
 of_bool b = gives (cond b 1 0)

@@ -1,36 +1,10 @@
 // Opening a queue or a batch, and pushing to a batch, from C. Each function answers the paper's number of what the operation answers.
 #![tactic(auto)]
 
-ghost use Rattle.std.specs.Prelude.{◌≡◌};
-ghost use Rattle.waiting.specs.Valid.{store, store_opened_number};
-ghost use Rattle.batch.specs.Push.{pushed_number};
+ghost use Rattle.waiting.specs.Valid.{store};
 ghost use Rattle.hub_batch.specs.Operations.{QueueOpened, BatchPushed};
 
-use batch::Pushed;
-use waiting::StoreOpened;
-
-fn opened(a: StoreOpened) -> u32
-    ensures { result ≡ store_opened_number a }
-{
-    match a {
-        StoreOpened::Done => 0,
-        StoreOpened::NotValid => 1,
-    }
-}
-
-fn pushed(a: Pushed) -> u32
-    ensures { result ≡ pushed_number a }
-{
-    match a {
-        Pushed::Done => 0,
-        Pushed::NotValid => 1,
-        Pushed::Malformed => 2,
-        Pushed::InBatch => 3,
-        Pushed::Waits => 16,
-        Pushed::TooMany => 8,
-        Pushed::Full => 17,
-    }
-}
+use waiting::number_of;
 
 // Opens an empty queue or batch: 1 if the lengths disagree, or 0 and the count is 0.
 #[unsafe(no_mangle)]
@@ -42,7 +16,7 @@ pub extern "C" fn cg_queue_open(
 ) -> u32
     ensures { QueueOpened (store hashes.now numbers.now deps.now count.old) result count.new }
 {
-    opened(waiting::open_empty(hashes, numbers, deps, count))
+    number_of(waiting::open_empty(hashes, numbers, deps, count))
 }
 
 // Takes a change into a batch: 1, 2, 3, 16, 8, 17, or 0 and it stands after the others.
@@ -61,7 +35,8 @@ pub extern "C" fn cg_batch_push(
 ) -> u32
     ensures { BatchPushed (store hashes.old numbers.old deps.old count.old) hash.now key seq top ops needs.now result (store hashes.new numbers.new deps.new count.new) }
 {
-    pushed(batch::push(
+    let pushed = batch::push(
         hashes, numbers, deps, count, hash, key, seq, top, ops, needs,
-    ))
+    );
+    number_of(pushed)
 }

@@ -7,21 +7,14 @@ ghost use Rattle.clock_checked.specs.Told.{SliceAsked, get_told, op_told, insert
 ghost use Rattle.hub_clock_slices.specs.Face.{entry_in, SliceGave, SliceChanged, range_of};
 
 use clock::Range;
-use clock_checked::Got;
+use clock_checked::ClockRefusal;
 
-fn wide(x: u32) -> u64
-    ensures { result ≡ x }
+// Tells the entry; a refusal leaves the place as it was.
+fn tell_entry(answer: Result<u32, ClockRefusal>, told: &mut [u64])
+    ensures { told.new ≡ entry_in answer told.old }
 {
-    x as u64
-}
-
-// Tells the entry.
-fn tell_entry(g: Got, told: &mut [u64])
-    ensures { told.new ≡ entry_in g told.old }
-{
-    match g {
-        Got::Entry(x) => lent_place::tell(told, wide(x)),
-        Got::NotValid => {}
+    if let Ok(entry) = answer {
+        lent_place::tell(told, u64::from(entry));
     }
 }
 
@@ -29,13 +22,11 @@ fn tell_entry(g: Got, told: &mut [u64])
 fn range_of(kind: u32) -> Range
     ensures { result ≡ range_of kind }
 {
-    if kind == 0 {
-        return Range::Current;
+    match kind {
+        0 => Range::Current,
+        1 => Range::CurrentAt,
+        _ => Range::Diff,
     }
-    if kind == 1 {
-        return Range::CurrentAt;
-    }
-    Range::Diff
 }
 
 // The entry at a place, nothing for a place not below the count: 1 or 0.
@@ -43,9 +34,9 @@ fn range_of(kind: u32) -> Range
 pub extern "C" fn cg_clock_get(entries: &[u32], count: usize, place: usize, told: &mut [u64]) -> u32
     ensures { SliceGave (get_told entries.now count place) told.old result told.new }
 {
-    let g = clock_checked::try_get(entries, count, place);
-    tell_entry(g, told);
-    clock_checked::got_number(g)
+    let entry = clock_checked::try_get(entries, count, place);
+    tell_entry(entry, told);
+    clock_checked::number(entry)
 }
 
 // Does the op clock cover the op? 1, 5 or 0.
@@ -59,9 +50,9 @@ pub extern "C" fn cg_clock_op_covers(
 ) -> u32
     ensures { SliceAsked (op_told entries.now count actor counter) told.old result told.new }
 {
-    let a = clock_checked::try_op_covers(entries, count, actor, counter);
-    clock_checked::tell_yes(a, told);
-    clock_checked::number(a)
+    let covers = clock_checked::try_op_covers(entries, count, actor, counter);
+    clock_checked::tell_yes(covers, told);
+    clock_checked::number(covers)
 }
 
 // A new actor at a place: 1, 12 or 0. The count is the caller's to raise.
@@ -98,9 +89,10 @@ pub extern "C" fn cg_clock_visible_after(
 ) -> u32
     ensures { SliceAsked (after_told (range_of kind) before.now n after.now m actor counter) told.old result told.new }
 {
-    let a = clock_checked::try_visible_after(range_of(kind), before, n, after, m, actor, counter);
-    clock_checked::tell_yes(a, told);
-    clock_checked::number(a)
+    let kind = range_of(kind);
+    let visible = clock_checked::try_visible_after(kind, before, n, after, m, actor, counter);
+    clock_checked::tell_yes(visible, told);
+    clock_checked::number(visible)
 }
 
 // Is the op older than the range? 1, 5 or 0.
@@ -117,7 +109,8 @@ pub extern "C" fn cg_clock_visible_before(
 ) -> u32
     ensures { SliceAsked (before_told (range_of kind) before.now n after.now m actor counter) told.old result told.new }
 {
-    let a = clock_checked::try_visible_before(range_of(kind), before, n, after, m, actor, counter);
-    clock_checked::tell_yes(a, told);
-    clock_checked::number(a)
+    let kind = range_of(kind);
+    let visible = clock_checked::try_visible_before(kind, before, n, after, m, actor, counter);
+    clock_checked::tell_yes(visible, told);
+    clock_checked::number(visible)
 }

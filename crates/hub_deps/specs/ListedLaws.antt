@@ -1,12 +1,10 @@
 -- On valid tables a walk along next from a hash's first edge puts the nodes down that the hash depends on.
 -- Assumes nothing.
-use Rattle.std.specs.Prelude.{◌≡◌, refl, List, [], ◌∷◌, ◌++◌, ℕ, ◌≤◌, ◌<◌, length, get_or, take, drop}
+use Rattle.std.specs.Prelude.{◌≡◌, refl, List, [], ◌∷◌, ◌++◌, ℕ, ◌≤◌, ◌<◌, length, get_or, take, drop, Some, None, Option}
 use Rattle.std.proofs.Common.{sym, ap, subst, ◌∙◌, arith, length-append, take_all, length-take-le}
 use borrow.Author.Tests.{lt-ltb, le-ltb, le-leb}
 use Rattle.paper.specs.Graph.{node}
 use Rattle.hash.specs.Hash.{find_hash}
-use Rattle.hash.specs.declared.Found.{Found}
-use Rattle.hash.specs.declared.Found.TheVariants.{At, Unknown}
 use Rattle.tables.specs.Tables.{Tables, tables, changes, first_at, along, graph}
 use Rattle.tables.specs.Valid.{Valid}
 use Rattle.tables.specs.NodeLaws.{node_at, node_low, node_none}
@@ -45,13 +43,13 @@ module _ (hs ns : List ℕ) (es : List Edge) (cs us h : List ℕ) (v : Valid (le
   unfolding deps_nodes
   unknown e = rw (e, le-ltb (changes met) (changes met) (omega arith))
 
-  meets : (f : Found) → find_hash hs (changes met) h ≡ f → Meets (edge_of_hash hs ns us h)
-  meets (At k) e =
+  meets : (f : Option ℕ) → find_hash hs (changes met) h ≡ f → Meets (edge_of_hash hs ns us h)
+  meets (Some k) e =
       let l = node_low met h k e in
       let b : edge_of_hash hs ns us h ≡ first_at ns k = edge_found hs ns us h one (room met v).hashes_in k e in
       let p : parents es (edge_of_hash hs ns us h) ≡ (graph met).deps k = ap (parents es) b ∙ parents_are_deps hs ns es cs us v.sound k l in
       (p ∙ sym (known k (node_at met h k e) l), subst (λ (r : List ℕ). length r ≤ 32) (sym p) (deps_few ns (targets_of es) (nexts_of es) v.sound.laid v.sound.counts.edges_fit k l))
-  meets Unknown e =
+  meets None e =
       let b : edge_of_hash hs ns us h ≡ 0 = edge_unknown hs ns us h one (room met v).hashes_in e in
       let p : parents es (edge_of_hash hs ns us h) ≡ [] = ap (parents es) b ∙ none_met in
       (p ∙ sym (unknown (node_none met h e)), subst (λ (r : List ℕ). length r ≤ 32) (sym p) (omega arith))

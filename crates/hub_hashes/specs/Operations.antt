@@ -4,7 +4,7 @@ use Rattle.std.specs.Prelude.{List, ℕ, length}
 use Rattle.paper.specs.Graph.{change_at}
 use Rattle.tables.specs.Tables.{Tables, graph}
 use Rattle.answer_buffer.specs.Answers.{node_hash, node_hash_filled}
-use Rattle.answer_buffer.specs.declared.Listed.TheVariants.{NotFound}
+use Rattle.answer_buffer.specs.declared.Refusal.TheVariants.{NotFound}
 use Rattle.hub_answer.specs.Asks.{of_listed, Asks}
 
 -- asking the tables t for the hash of the node answers r and leaves out' and told'

@@ -1,16 +1,18 @@
 // Loading decoded columns into a graph, from C, over edge records. It checks what it is lent: it has no `requires`.
-// `load_checked` checks the lengths and calls the core; `load_told` does so with the first e edges of two larger tables;
-// `cg_load` unpacks the records into two such tables, calls `load_told`, and packs them again.
+// `cg_load` unpacks the records and packs them again; between the two `load_checked` checks the lengths and calls the core.
+// `load_checked` stands apart: the first edges of two local tables are lent to it by `&mut`, and packed again after it.
+// Tables that are written are taken one by one: two `&mut` of one struct are lent in no call that the borrow checker covers (tried in `graph::store`).
 #![tactic(auto)]
 
 ghost use Rattle.std.specs.Prelude.{◌≡◌};
 ghost use Rattle.tables.specs.Tables.{tables};
-ghost use Rattle.columns.specs.Columns.{columns};
+ghost use Rattle.columns.specs.Columns.{columns, listed};
 ghost use Rattle.edges.specs.Edges.{lent};
-ghost use Rattle.edges.specs.Told.{OverFirst};
 ghost use Rattle.hub_load.specs.Operations.{Loaded};
 
+use columns::Columns;
 use edges::Edge;
+use tables::Tables;
 
 // Judges the columns and, where they are accepted, replaces what the tables hold. On every number but 0 nothing changes.
 fn load_checked(
@@ -20,71 +22,22 @@ fn load_checked(
     nexts: &mut [u32],
     clocks: &mut [u32],
     counts: &mut [u32],
-    ids: &[u8],
-    actors: &[u64],
-    seqs: &[u64],
-    maxes: &[u64],
-    ops: &[u64],
-    deps: &[u64],
-    values: &[u64],
-    heads: &[u8],
-    count: u64,
+    listing: &Columns,
 ) -> u32
-    ensures { Loaded (columns ids.now actors.now seqs.now maxes.now ops.now deps.now values.now heads.now count) (tables hashes.old nodes.old targets.old nexts.old clocks.old counts.old) result (tables hashes.new nodes.new targets.new nexts.new clocks.new counts.new) }
+    ensures { Loaded (listed listing.now) (tables hashes.old nodes.old targets.old nexts.old clocks.old counts.old) result (tables hashes.new nodes.new targets.new nexts.new clocks.new counts.new) }
 {
-    if !tables::lengths_agree(hashes, nodes, targets, nexts, clocks, counts) {
-        return 1;
-    }
-    let j = load::load(
-        hashes, nodes, targets, nexts, clocks, counts, ids, actors, seqs, maxes, ops, deps, values,
-        heads, count,
-    );
-    columns::number(j)
-}
-
-fn load_told(
-    hashes: &mut [u8],
-    nodes: &mut [u32],
-    targets: &mut [u32],
-    nexts: &mut [u32],
-    e: usize,
-    clocks: &mut [u32],
-    counts: &mut [u32],
-    ids: &[u8],
-    actors: &[u64],
-    seqs: &[u64],
-    maxes: &[u64],
-    ops: &[u64],
-    deps: &[u64],
-    values: &[u64],
-    heads: &[u8],
-    count: u64,
-) -> u32
-    ensures { OverFirst (Loaded (columns ids.now actors.now seqs.now maxes.now ops.now deps.now values.now heads.now count)) e (tables hashes.old nodes.old targets.old nexts.old clocks.old counts.old) result (tables hashes.new nodes.new targets.new nexts.new clocks.new counts.new) }
-{
-    if targets.len() < e {
-        return 1;
-    }
-    if nexts.len() < e {
-        return 1;
-    }
-    load_checked(
+    if !tables::lengths_agree(&Tables {
         hashes,
         nodes,
-        &mut targets[..e],
-        &mut nexts[..e],
+        targets,
+        nexts,
         clocks,
         counts,
-        ids,
-        actors,
-        seqs,
-        maxes,
-        ops,
-        deps,
-        values,
-        heads,
-        count,
-    )
+    }) {
+        return 1;
+    }
+    let loaded = load::load(hashes, nodes, targets, nexts, clocks, counts, listing);
+    columns::number(loaded)
 }
 
 #[unsafe(no_mangle)]
@@ -106,18 +59,11 @@ pub extern "C" fn cg_load(
 ) -> u32
     ensures { Loaded (columns ids.now actors.now seqs.now maxes.now ops.now deps.now values.now heads.now count) (lent hashes.old nodes.old edges.old clocks.old counts.old) result (lent hashes.new nodes.new edges.new clocks.new counts.new) }
 {
-    let mut targets = [0u32; 16384];
-    let mut nexts = [0u32; 16384];
     let e = edges.len();
-    edges::unpack(edges, &mut targets, &mut nexts);
-    let r = load_told(
-        hashes,
-        nodes,
-        &mut targets,
-        &mut nexts,
-        e,
-        clocks,
-        counts,
+    if 16384 < e {
+        return 1;
+    }
+    let listing = Columns {
         ids,
         actors,
         seqs,
@@ -127,6 +73,18 @@ pub extern "C" fn cg_load(
         values,
         heads,
         count,
+    };
+    let mut targets = [0u32; 16384];
+    let mut nexts = [0u32; 16384];
+    edges::unpack(edges, &mut targets, &mut nexts);
+    let r = load_checked(
+        hashes,
+        nodes,
+        &mut targets[..e],
+        &mut nexts[..e],
+        clocks,
+        counts,
+        &listing,
     );
     edges::pack(&targets, &nexts, edges);
     r

@@ -1,16 +1,15 @@
-// The graph's public operations. Each is lent the tables, with the edges as records, and checks what it is lent: it has no `requires`.
-// An operation comes in three: `X_checked` checks the tables and calls the core; `X_told` does so with the first e edges of two larger tables;
-// `cg_X`, the C face, unpacks the records into two such tables, calls `X_told`, and packs them again where they change.
+// Opening an empty graph, from C, over edge records. It checks what it is lent: it has no `requires`.
+// `cg_open` unpacks the records; `open_checked` checks the lengths of the tables and calls the core.
+// `open_checked` stands apart for the reason that `hub_forget` gives.
+// Tables that are written are taken one by one: two `&mut` of one struct are lent in no call that the borrow checker covers (tried in `graph::store`).
 #![tactic(auto)]
 
-ghost use Rattle.std.specs.Prelude.{◌≡◌};
-ghost use Rattle.paper.specs.Numbers.{number, not_valid};
 ghost use Rattle.tables.specs.Tables.{tables};
 ghost use Rattle.edges.specs.Edges.{lent};
-ghost use Rattle.edges.specs.Told.{AskedOverFirst};
 ghost use Rattle.hub_open.specs.Operations.{Opened};
 
 use edges::Edge;
+use tables::Tables;
 
 // Opens an empty graph for so many actors. Only the lengths of the tables are checked, and only the counts change.
 fn open_checked(
@@ -24,40 +23,18 @@ fn open_checked(
 ) -> u32
     ensures { Opened actors result counts.new (tables hashes.now nodes.now targets.now nexts.now clocks.now counts.old) }
 {
-    if !tables::lengths_agree(hashes, nodes, targets, nexts, clocks, counts) {
-        return 1;
-    }
-    let j = actors::open_empty(hashes, nodes, targets, nexts, clocks, counts, actors);
-    actors::number(j)
-}
-
-fn open_told(
-    hashes: &[u8],
-    nodes: &[u32],
-    targets: &[u32],
-    nexts: &[u32],
-    e: usize,
-    clocks: &[u32],
-    counts: &mut [u32],
-    actors: u64,
-) -> u32
-    ensures { AskedOverFirst (Opened actors result counts.new) ((result ≡ number not_valid) × (counts.new ≡ counts.old)) e (tables hashes.now nodes.now targets.now nexts.now clocks.now counts.old) }
-{
-    if targets.len() < e {
-        return 1;
-    }
-    if nexts.len() < e {
-        return 1;
-    }
-    open_checked(
+    if !tables::lengths_agree(&Tables {
         hashes,
         nodes,
-        &targets[..e],
-        &nexts[..e],
+        targets,
+        nexts,
         clocks,
         counts,
-        actors,
-    )
+    }) {
+        return 1;
+    }
+    let opened = actors::open_empty(hashes, nodes, targets, nexts, clocks, counts, actors);
+    actors::number(opened)
 }
 
 #[unsafe(no_mangle)]
@@ -73,7 +50,9 @@ pub extern "C" fn cg_open(
 {
     let mut targets = [0u32; 16384];
     let mut nexts = [0u32; 16384];
-    let e = edges.len();
     edges::unpack(edges, &mut targets, &mut nexts);
-    open_told(hashes, nodes, &targets, &nexts, e, clocks, counts, actors)
+    let Some((targets, nexts)) = edges::unpacked(edges, &targets, &nexts) else {
+        return 1;
+    };
+    open_checked(hashes, nodes, targets, nexts, clocks, counts, actors)
 }

@@ -4,7 +4,7 @@ use Rattle.std.specs.Prelude.{List, ℕ, length}
 use Rattle.paper.specs.Graph.{owner}
 use Rattle.tables.specs.Tables.{Tables, graph}
 use Rattle.answer_buffer.specs.Answers.{node_hash, node_hash_filled}
-use Rattle.answer_buffer.specs.declared.Listed.TheVariants.{NoOwner}
+use Rattle.answer_buffer.specs.declared.Refusal.TheVariants.{NoOwner}
 use Rattle.hub_answer.specs.Asks.{of_listed, Asks}
 
 -- asking the tables t for the owner of the op answers r and leaves out' and told'

@@ -4,78 +4,33 @@
 
 ghost use Rattle.std.specs.Prelude.{◌≡◌};
 ghost use Rattle.waiting.specs.Valid.{store};
-ghost use Rattle.queue.specs.Hand.{handed_number};
-ghost use Rattle.queue.specs.Asked.{queue_answer_number, queue_listed_number};
-ghost use Rattle.branch.specs.Branch.{branch_number};
+ghost use Rattle.waiting.specs.Refused.{queue_number};
 ghost use Rattle.hub_queue.specs.Told.{queue_yes_in, listed_count_in};
 ghost use Rattle.hub_queue.specs.Operations.{HandedOver, BranchRemoved, QueueIsEmpty, QueueHasHash, QueueHasActorSeq, QueueGiven};
 
-use branch::BranchDropped;
 use lent_place::tell;
-use queue::{Handed, QueueAnswer, QueueListed};
+use waiting::{QueueRefusal, number_of};
 
-fn handed(a: Handed) -> u32
-    ensures { result ≡ handed_number a }
+// Tells yes or no, unless the question is refused, and answers the number.
+fn tell_yes(asked: Result<bool, QueueRefusal>, told: &mut [u64]) -> u32
+    ensures told_yes { told.new ≡ queue_yes_in asked told.old }
+    ensures value { result ≡ queue_number asked }
 {
-    match a {
-        Handed::Done => 0,
-        Handed::NotValid => 1,
-        Handed::Clash => 16,
-        Handed::Full => 17,
+    if let Ok(yes) = asked {
+        tell(told, u64::from(yes));
     }
+    number_of(asked)
 }
 
-fn removed(a: BranchDropped) -> u32
-    ensures { result ≡ branch_number a }
+// Tells how many, unless they are refused, and answers the number.
+fn tell_count(listed: Result<usize, QueueRefusal>, told: &mut [u64]) -> u32
+    ensures told_count { told.new ≡ listed_count_in listed told.old }
+    ensures value { result ≡ queue_number listed }
 {
-    match a {
-        BranchDropped::Done => 0,
-        BranchDropped::NotValid => 1,
+    if let Ok(n) = listed {
+        tell(told, n as u64);
     }
-}
-
-fn asked(a: QueueAnswer) -> u32
-    ensures { result ≡ queue_answer_number a }
-{
-    match a {
-        QueueAnswer::Yes => 0,
-        QueueAnswer::No => 0,
-        QueueAnswer::NotValid => 1,
-        QueueAnswer::Malformed => 2,
-    }
-}
-
-fn listed(a: QueueListed) -> u32
-    ensures { result ≡ queue_listed_number a }
-{
-    match a {
-        QueueListed::All(_) => 0,
-        QueueListed::Short => 15,
-        QueueListed::NotValid => 1,
-    }
-}
-
-// Tells yes or no.
-fn tell_yes(a: QueueAnswer, told: &mut [u64])
-    ensures { told.new ≡ queue_yes_in a told.old }
-{
-    match a {
-        QueueAnswer::Yes => tell(told, 1),
-        QueueAnswer::No => tell(told, 0),
-        QueueAnswer::NotValid => {}
-        QueueAnswer::Malformed => {}
-    }
-}
-
-// Tells how many.
-fn tell_count(a: QueueListed, told: &mut [u64])
-    ensures { told.new ≡ listed_count_in a told.old }
-{
-    match a {
-        QueueListed::All(n) => tell(told, n as u64),
-        QueueListed::Short => {}
-        QueueListed::NotValid => {}
-    }
+    number_of(listed)
 }
 
 // Hands a batch over to a queue: 1, 16, 17, or 0 and all its changes stand after the others and the batch is empty.
@@ -92,9 +47,10 @@ pub extern "C" fn cg_hand_over(
 ) -> u32
     ensures { HandedOver (store hashes.old numbers.old deps.old count.old) (store bhashes.now bnumbers.now bdeps.now bcount.old) result (store hashes.new numbers.new deps.new count.new) bcount.new }
 {
-    handed(queue::hand_over(
+    let handed = queue::hand_over(
         hashes, numbers, deps, count, bhashes, bnumbers, bdeps, bcount,
-    ))
+    );
+    number_of(handed)
 }
 
 // Drops the actor's changes at or after the sequence, and all waiting ones that depend on them: 1 or 0.
@@ -109,7 +65,7 @@ pub extern "C" fn cg_remove_actor_branch_from(
 ) -> u32
     ensures { BranchRemoved (store hashes.old numbers.old deps.old count.old) key from result (store hashes.new numbers.new deps.new count.new) }
 {
-    removed(branch::remove_actor_branch_from(hashes, numbers, deps, count, key, from))
+    number_of(branch::remove_actor_branch_from(hashes, numbers, deps, count, key, from))
 }
 
 // Waits nothing? 1 or 0.
@@ -124,8 +80,7 @@ pub extern "C" fn cg_queue_is_empty(
     ensures { QueueIsEmpty (store hashes.now numbers.now deps.now count.now) told.old result told.new }
 {
     let a = queue::is_empty(hashes, numbers, deps, count);
-    tell_yes(a, told);
-    asked(a)
+    tell_yes(a, told)
 }
 
 // Has a waiting change the hash? 1, 2 or 0.
@@ -141,8 +96,7 @@ pub extern "C" fn cg_queue_has_hash(
     ensures { QueueHasHash (store hashes.now numbers.now deps.now count.now) hash.now told.old result told.new }
 {
     let a = queue::has_hash(hashes, numbers, deps, count, hash);
-    tell_yes(a, told);
-    asked(a)
+    tell_yes(a, told)
 }
 
 // Has a waiting change the actor and the sequence? 1 or 0.
@@ -159,8 +113,7 @@ pub extern "C" fn cg_queue_has_actor_seq(
     ensures { QueueHasActorSeq (store hashes.now numbers.now deps.now count.now) key seq told.old result told.new }
 {
     let a = queue::has_actor_seq(hashes, numbers, deps, count, key, seq);
-    tell_yes(a, told);
-    asked(a)
+    tell_yes(a, told)
 }
 
 // Gives all waiting records out, in queue order, into the other tables, and tells how many: 1, 15 or 0. The queue stays.
@@ -178,6 +131,5 @@ pub extern "C" fn cg_queue_iter(
     ensures { QueueGiven (store hashes.now numbers.now deps.now count.now) thashes.old tnumbers.old tdeps.old told.old result thashes.new tnumbers.new tdeps.new told.new }
 {
     let a = queue::iter(hashes, numbers, deps, count, thashes, tnumbers, tdeps);
-    tell_count(a, told);
-    listed(a)
+    tell_count(a, told)
 }

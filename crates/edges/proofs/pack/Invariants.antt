@@ -1,9 +1,5 @@
-use Rattle.std.proofs.Common.{◌-◌}
 use Rattle.edges.specs.EdgesLaws.{Packing}
 use Rattle.edges.proofs.pack.Given as goal
 
 abbrev pub invariant-loop-i : goal.invariant-loop-i
-invariant-loop-i l = Packing l.targets l.nexts l.initial.edges l.i (l.m - l.i) l.edges
-
-abbrev pub decreases-loop-i : goal.decreases-loop-i
-decreases-loop-i l = l.m - l.i
+invariant-loop-i l = Packing l.targets l.nexts l.initial.edges l.i l.edges

@@ -1,9 +1,5 @@
-use Rattle.std.proofs.Common.{◌-◌}
 use Rattle.edges.specs.EdgesLaws.{Unpacking}
 use Rattle.edges.proofs.unpack.Given as goal
 
 abbrev pub invariant-loop-i : goal.invariant-loop-i
-invariant-loop-i l = Unpacking l.edges l.initial.targets l.initial.nexts l.i (l.m - l.i) l.targets l.nexts
-
-abbrev pub decreases-loop-i : goal.decreases-loop-i
-decreases-loop-i l = l.m - l.i
+invariant-loop-i l = Unpacking l.edges l.initial.targets l.initial.nexts l.i l.targets l.nexts

@@ -1,14 +1,36 @@
--- What the core says of the two local tables is said of the records: too many edges are refused, and else the first of each table are the records.
-use Rattle.std.proofs.Common.{arith}
-use Rattle.judge.specs.Judge.{change}
+-- What the core says of the first edges of the two local tables is said of the records, which they are.
+use Rattle.std.proofs.Common.{◌≡◌, ◌≤◌, ◌<◌, ℕ, ⊎_elim, ◌++◌, length, drop, ◌∙◌, length-append, length-drop, length-take-le, arith}
+use Rattle.tables.specs.Tables.{tables}
+use Rattle.judge.specs.Judged.{change}
+use Rattle.edges.specs.Told.{Beyond, told_part}
+use Rattle.edges.specs.Edges.{local_room}
 use Rattle.edges.proofs.Told.{beside_of}
 use Rattle.hub_add.specs.Operations.{Added, added_refused}
 use Rattle.hub_add.proofs.cg_add.Goals as goal
 
+none : {e n : ℕ} → e ≤ 16384 → n ≡ 16384 → n < e → ⊥
+none few g l = omega arith
+
 pub returns : goal.returns
 returns c =
     let a = c.args in
-    let o = c.add_told-r in
+    let u = c.unpack in
+    let o = c.add_checked-r in
+    let room = c.if-e-gt16384.false in
+    let g = u.auto.targets in
+    let g' = u.auto.nexts in
     let h = o.auto.targets in
     let h' = o.auto.nexts in
-    beside_of a.edges.now (Added (change a.hash.now a.actor a.seq a.max a.ops a.deps.now) a.unknown.now o.new.unknown) o.result a.hashes.now a.nodes.now a.clocks.now a.counts.now o.new.hashes o.new.nodes o.new.targets o.new.nexts o.new.clocks o.new.counts c.unpack.ensures (omega arith) (omega arith) c.pack.ensures o.ensures (added_refused _ _ _)
+    let same : length o.new.targets ≡ length a.edges.now = h ∙ length-take-le (length a.edges.now) u.new.targets (omega arith) in
+    let same' : length o.new.nexts ≡ length a.edges.now = h' ∙ length-take-le (length a.edges.now) u.new.nexts (omega arith) in
+    let ts = o.new.targets ++ drop (length a.edges.now) u.new.targets in
+    let xs = o.new.nexts ++ drop (length a.edges.now) u.new.nexts in
+    let long : length ts ≡ local_room = omega (arith, length-append o.new.targets (drop (length a.edges.now) u.new.targets), length-drop (length a.edges.now) u.new.targets) in
+    let long' : length xs ≡ local_room = omega (arith, length-append o.new.nexts (drop (length a.edges.now) u.new.nexts), length-drop (length a.edges.now) u.new.nexts) in
+    let few : length a.edges.now ≤ 16384 = omega arith in
+    let beyond : Beyond (length a.edges.now) (tables a.hashes.now a.nodes.now u.new.targets u.new.nexts a.clocks.now a.counts.now) → o.new.unknown ≡ a.unknown.now =
+    λ b. absurd (⊎_elim (λ (l : length u.new.targets < length a.edges.now). none few g l) (λ (l : length u.new.nexts < length a.edges.now). none few g' l) b) in
+    let R = Added (change a.hash.now a.actor a.seq a.max a.ops a.deps.now) a.unknown.now o.new.unknown in
+    beside_of a.edges.now R o.result a.hashes.now a.nodes.now a.clocks.now a.counts.now o.new.hashes o.new.nodes ts xs o.new.clocks o.new.counts u.ensures long long' c.pack.ensures
+    (told_part R (length a.edges.now) u.new.targets u.new.nexts o.new.targets o.new.nexts (omega arith) (omega arith) same same' a.hashes.now a.nodes.now a.clocks.now a.counts.now o.new.hashes o.new.nodes o.new.clocks o.new.counts o.result o.ensures, beyond)
+    (added_refused _ _ _)

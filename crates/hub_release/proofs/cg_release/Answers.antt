@@ -1,9 +1,8 @@
--- What the core says of the two local tables is said of the records.
-use Rattle.edges.proofs.Told.{asked_of}
-use Rattle.hub_release.specs.Operations.{freed_refused}
+-- Where the graph is not valid nothing is released.
+use Rattle.std.proofs.Common.{refl}
+use Rattle.std.proofs.lemmas.Bool.{false≢true}
+use Rattle.hub_release.specs.Operations.{freed_not}
 use Rattle.hub_release.proofs.cg_release.Goals as goal
 
-pub returns : goal.returns
-returns c =
-    let a = c.args in
-    asked_of a.edges.now a.hashes.now a.nodes.now a.clocks.now a.counts.now c.unpack.ensures c.release_told.ensures (freed_refused _ _ _ _)
+pub returns-in_default : goal.returns-in_default
+returns-in_default c = freed_not _ _ _ _ (λ v. false≢true (rw c.in_default.is at c.valid_tables.ensures.checked.1 v)) (refl, refl)

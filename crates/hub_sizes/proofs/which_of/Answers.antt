@@ -1,12 +1,12 @@
--- One case a number.
+use Rattle.std.proofs.Common.{rules}
 use Rattle.hub_sizes.specs.Operations.{which_used, which_unused, which_all}
 use Rattle.hub_sizes.proofs.which_of.Goals as goal
 
-pub returns-then-n-eq0 : goal.returns-then-n-eq0
-returns-then-n-eq0 c = which_used c.args.n c.if-n-eq0.true
+pub returns-in-0 : goal.returns-in-0
+returns-in-0 c = search (rules, which_used)
 
-pub returns-then-n-eq1 : goal.returns-then-n-eq1
-returns-then-n-eq1 c = which_unused c.args.n c.if-n-eq1.true
+pub returns-in-1 : goal.returns-in-1
+returns-in-1 c = search (rules, which_unused)
 
-pub returns : goal.returns
-returns c = which_all c.args.n c.if-n-eq0.false c.if-n-eq1.false
+pub returns-in_default : goal.returns-in_default
+returns-in_default c = search (rules, which_all)
