@@ -9,10 +9,13 @@ ghost use Rattle.tables.specs.Valid.{Valid};
 ghost use Rattle.judge.specs.Judge.{change, tables_judged, judged_number};
 ghost use Rattle.graph.specs.Place.{added_tables};
 ghost use Rattle.answer_buffer.specs.Answers.{listed_number, list_answer, filled, node_hash, node_hash_filled};
-ghost use Rattle.answer_buffer.specs.declared.Listed.TheVariants.{NoOwner};
+ghost use Rattle.answer_buffer.specs.declared.Refusal.TheVariants.{NoOwner};
 ghost use Rattle.heads.specs.Heads.{head_hashes};
 ghost use Rattle.list_clock.specs.Clocks.{clock_told, clock_filled};
 ghost use Rattle.missing.specs.Missing.{missing_told, missing_filled};
+
+use judge::Change;
+use tables::Tables;
 
 // Adds a change.
 #[unsafe(no_mangle)]
@@ -34,10 +37,15 @@ pub extern "C" fn bare_add(
     ensures value { result ≡ judged_number (tables_judged (tables hashes.old nodes.old targets.old nexts.old clocks.old counts.old) (change hash.now actor seq max ops deps.now)) }
     ensures counts_after { tables hashes.new nodes.new targets.new nexts.new clocks.new counts.new ≡ added_tables (tables hashes.old nodes.old targets.old nexts.old clocks.old counts.old) (change hash.now actor seq max ops deps.now) }
 {
-    let j = graph::add(
-        hashes, nodes, targets, nexts, clocks, counts, hash, actor, seq, max, ops, deps,
-    );
-    judge::number(j)
+    let change = Change {
+        hash,
+        actor,
+        seq,
+        max_op: max,
+        ops,
+        deps,
+    };
+    judge::number(graph::add(hashes, nodes, targets, nexts, clocks, counts, &change))
 }
 
 // The clock of a list.
@@ -56,10 +64,15 @@ pub extern "C" fn bare_clock(
     ensures value { result ≡ listed_number (clock_told (tables hashes.now nodes.now targets.now nexts.now clocks.now counts.now) list.now (length out.old)) }
     ensures out_after { out.new ≡ clock_filled (tables hashes.now nodes.now targets.now nexts.now clocks.now counts.now) list.now out.old }
 {
-    let l = list_clock::seq_clock_for_heads(
-        hashes, nodes, targets, nexts, clocks, counts, list, out,
-    );
-    answer_buffer::listed_number(l)
+    let tables = Tables {
+        hashes,
+        nodes,
+        targets,
+        nexts,
+        clocks,
+        counts,
+    };
+    answer_buffer::number(&list_clock::seq_clock_for_heads(&tables, list, out))
 }
 
 // The missing list of a have-list.
@@ -78,8 +91,15 @@ pub extern "C" fn bare_missing(
     ensures value { result ≡ listed_number (missing_told (graph (tables hashes.now nodes.now targets.now nexts.now clocks.now counts.now)) have.now (length out.old)) }
     ensures out_after { out.new ≡ missing_filled (graph (tables hashes.now nodes.now targets.now nexts.now clocks.now counts.now)) have.now out.old }
 {
-    let l = missing::get_hashes(hashes, nodes, targets, nexts, clocks, counts, have, out);
-    answer_buffer::listed_number(l)
+    let tables = Tables {
+        hashes,
+        nodes,
+        targets,
+        nexts,
+        clocks,
+        counts,
+    };
+    answer_buffer::number(&missing::get_hashes(&tables, have, out))
 }
 
 // The owner of an op.
@@ -99,10 +119,15 @@ pub extern "C" fn bare_owner(
     ensures value { result ≡ listed_number (node_hash (graph (tables hashes.now nodes.now targets.now nexts.now clocks.now counts.now)) (owner (graph (tables hashes.now nodes.now targets.now nexts.now clocks.now counts.now)) actor counter) NoOwner (length out.old)) }
     ensures out_after { out.new ≡ node_hash_filled (graph (tables hashes.now nodes.now targets.now nexts.now clocks.now counts.now)) (owner (graph (tables hashes.now nodes.now targets.now nexts.now clocks.now counts.now)) actor counter) out.old }
 {
-    let l = owner::opid_to_hash(
-        hashes, nodes, targets, nexts, clocks, counts, actor, counter, out,
-    );
-    answer_buffer::listed_number(l)
+    let tables = Tables {
+        hashes,
+        nodes,
+        targets,
+        nexts,
+        clocks,
+        counts,
+    };
+    answer_buffer::number(&owner::opid_to_hash(&tables, actor, counter, out))
 }
 
 // The heads.
@@ -120,6 +145,13 @@ pub extern "C" fn bare_heads(
     ensures value { result ≡ listed_number (list_answer (head_hashes (graph (tables hashes.now nodes.now targets.now nexts.now clocks.now counts.now))) (length out.old)) }
     ensures out_after { out.new ≡ filled (head_hashes (graph (tables hashes.now nodes.now targets.now nexts.now clocks.now counts.now))) out.old }
 {
-    let l = heads::heads(hashes, nodes, targets, nexts, clocks, counts, out);
-    answer_buffer::listed_number(l)
+    let tables = Tables {
+        hashes,
+        nodes,
+        targets,
+        nexts,
+        clocks,
+        counts,
+    };
+    answer_buffer::number(&heads::heads(&tables, out))
 }

@@ -1,11 +1,11 @@
 -- The hub's room agrees with itself, and a graph opened in it is valid.
 -- Assumes nothing.
-use Rattle.std.specs.Prelude.{◌≡◌, ℕ, ◌/◌, ◌≤◌}
+use Rattle.std.specs.Prelude.{◌≡◌, Result, ℕ, ◌/◌, ◌≤◌}
 use Rattle.std.proofs.Math.Path.{refl}
 use Rattle.std.proofs.Common.{sym, ap, subst, ◌∙◌, arith}
 use Rattle.tables.specs.Tables.{Tables, change_room_of, actor_room, width_of}
 use Rattle.tables.specs.Valid.{Lengths, Valid}
-use Rattle.actors.specs.declared.ActorAnswer.{ActorAnswer}
+use Rattle.actors.specs.declared.ActorRefusal.{ActorRefusal}
 use Rattle.actors.specs.Actors.{opening, opened, if_actors_done}
 use Rattle.actors.specs.ActorLaws.{opening_done}
 use Rattle.actors.specs.Lives.{opened_valid}
@@ -33,7 +33,7 @@ module _ (t : Tables) (r : Room t) where
       }
 
   -- whatever is answered to opening it for one actor, the tables are then valid
-  pub room_opened : (j : ActorAnswer) (u : Tables) → j ≡ opening t 1 → u ≡ if_actors_done j (opened t 1) t → Valid u
+  pub room_opened : (j : Result (Unit {0}) ActorRefusal) (u : Tables) → j ≡ opening t 1 → u ≡ if_actors_done j (opened t 1) t → Valid u
   room_opened j u e q =
       let l : 1 ≤ actor_room t = let a = actors_are in omega arith in
-      subst Valid (sym (q ∙ ap (λ (i : ActorAnswer). if_actors_done i (opened t 1) t) (e ∙ opening_done t 1 l))) (opened_valid t 1 room_lengths l)
+      subst Valid (sym (q ∙ ap (λ (i : Result (Unit {0}) ActorRefusal). if_actors_done i (opened t 1) t) (e ∙ opening_done t 1 l))) (opened_valid t 1 room_lengths l)

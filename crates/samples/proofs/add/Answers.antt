@@ -5,4 +5,4 @@ use Rattle.graph.specs.Life.{added_valid}
 use Rattle.samples.proofs.add.Goals as goal
 
 pub returns : goal.returns
-returns c = subst Valid (sym c.add-j.ensures.counts_after) (added_valid _ _ c.requires)
+returns c = subst Valid (sym c.add.ensures.counts_after) (added_valid _ _ c.requires)
