@@ -14,13 +14,7 @@ use Rattle.paper.proofs.Each.{length_each}
 use Rattle.paper.specs.Asking.{not_hash, not_hashes, judged_room, judged_question, judged_look_up, judged_known, judged_node, judged_index, judged_actor_seq, judged_owner, judged_actors, judged_heads, judged_head_nodes, judged_current, judged_deps, judged_clock, judged_missing, judged_outside}
 use Rattle.tables.specs.Tables.{Tables, graph, actors}
 use Rattle.judge.specs.Hub.{hub}
-use Rattle.answer_buffer.specs.Answers.{place_number, yes_no_number, listed_number, list_answer, one_hash, whole_list, node_hash}
-use Rattle.answer_buffer.specs.declared.Place.{Place}
-use Rattle.answer_buffer.specs.declared.Place.TheVariants.{At, Malformed as NoPlace, NotFound as Nowhere}
-use Rattle.answer_buffer.specs.declared.YesNo.{YesNo}
-use Rattle.answer_buffer.specs.declared.YesNo.TheVariants.{Yes, No, Malformed as Untold}
-use Rattle.answer_buffer.specs.declared.Listed.{Listed}
-use Rattle.answer_buffer.specs.declared.Listed.TheVariants.{Done, Malformed, NotFound, NoOwner, Short}
+use Rattle.answer_buffer.specs.Answers.{refusal_number, place_number, yes_no_number, listed_number, list_answer, one_hash, whole_list, node_hash}
 use Rattle.lookups.specs.Lookups.{looked_up, has, actor_listed, actor_list}
 use Rattle.lookups.specs.declared.Which.{Which}
 use Rattle.heads.specs.Heads.{head_hashes, head_places}
@@ -31,6 +25,10 @@ use Rattle.missing.specs.Missing.{missing_told, missing_hashes}
 use Rattle.deps.specs.Deps.{deps_told, hash_deps, node_deps}
 use Rattle.ancestors.specs.Ancestors.{removed_told, outside_bytes}
 use Rattle.hub_answer.specs.Asks.{reply_number, of_listed, of_place, of_yes_no}
+use Rattle.answer_buffer.specs.Answers.{Listed, Place, YesNo}
+use Rattle.answer_buffer.specs.declared.Refusal.{Refusal}
+use Rattle.answer_buffer.specs.declared.Refusal.TheVariants.{Malformed, NotFound, NoOwner, Short}
+use Rattle.std.specs.Prelude.{true, false, Ok, Err}
 
 -- ---- the shape
 
@@ -42,19 +40,19 @@ room_agrees l room =
     (λ n. rw (n, lt-ltb room (length l) (leb-false (length l) room n)))
 
 -- what is asked with is well shaped and the list is answered, or it is not
-pub list_agrees : (well : Bool) (l : List ℕ) (n room : ℕ) → length l ≡ n → listed_number (cond well (list_answer l room) Malformed) ≡ number (judged_question (not well) false done n room)
+pub list_agrees : (well : Bool) (l : List ℕ) (n room : ℕ) → length l ≡ n → listed_number (cond well (list_answer l room) (Err Malformed)) ≡ number (judged_question (not well) false done n room)
 unfolding judged_question
 list_agrees true l n room e = room_agrees l room ∙ ap (λ (m : ℕ). number (judged_room m room)) e
 list_agrees false l n room e = refl
 
 -- nothing is written into the buffer: 15 is not given
-shown_agrees : (well : Bool) (n room : ℕ) → listed_number (cond well (Done n) Malformed) ≡ number (judged_question (not well) false done 0 room)
+shown_agrees : (well : Bool) (n room : ℕ) → listed_number (cond well (Ok n) (Err Malformed)) ≡ number (judged_question (not well) false done 0 room)
 unfolding judged_question judged_room
 shown_agrees true n room = rw (le-ltb room 0 (omega arith))
 shown_agrees false n room = refl
 
 -- a node's hash is answered, or it is refused
-pub node_agrees : (g : Graph) (k : ℕ) (refusal : Listed) (o : Outcome) (room : ℕ) → listed_number refusal ≡ number o → listed_number (node_hash g k refusal room) ≡ number (judged_node g k o room)
+pub node_agrees : (g : Graph) (k : ℕ) (refusal : Refusal) (o : Outcome) (room : ℕ) → refusal_number refusal ≡ number o → listed_number (node_hash g k refusal room) ≡ number (judged_node g k o room)
 unfolding node_hash judged_node judged_question
 node_agrees g k refusal o room e =
     by_bool (ltb k g.size) (λ y. rw (y, lt-leb g.size k (ltb-true k g.size y)) (room_agrees (g.hash k) room))
@@ -62,21 +60,21 @@ node_agrees g k refusal o room e =
 
 -- the number that a C function gives is that of the answer
 pub listed_reply : (a : Listed) → reply_number (of_listed a) ≡ listed_number a
-listed_reply (Done n) = refl
-listed_reply Malformed = refl
-listed_reply NotFound = refl
-listed_reply NoOwner = refl
-listed_reply Short = refl
+listed_reply (Ok n) = refl
+listed_reply (Err Malformed) = refl
+listed_reply (Err NotFound) = refl
+listed_reply (Err NoOwner) = refl
+listed_reply (Err Short) = refl
 
 pub place_reply : (a : Place) → reply_number (of_place a) ≡ place_number a
-place_reply (At k) = refl
-place_reply NoPlace = refl
-place_reply Nowhere = refl
+place_reply a = listed_reply a
 
 pub yes_no_reply : (a : YesNo) → reply_number (of_yes_no a) ≡ yes_no_number a
-yes_no_reply Yes = refl
-yes_no_reply No = refl
-yes_no_reply Untold = refl
+yes_no_reply (Ok b) = refl
+yes_no_reply (Err Malformed) = refl
+yes_no_reply (Err NotFound) = refl
+yes_no_reply (Err NoOwner) = refl
+yes_no_reply (Err Short) = refl
 
 -- a list that goes through a function keeps its length
 map_long : {A B : Type 0} (f : A → B) (l : List A) → length (map f l) ≡ length l
@@ -101,10 +99,9 @@ module _ (g : Graph) where
       (λ b. rw b)
 
   -- yes and no have the number 0
-  told : (well b : Bool) → yes_no_number (cond well (cond b Yes No) Untold) ≡ number (judged_question (not well) false done 0 0)
+  told : (well b : Bool) → yes_no_number (cond well (Ok b) (Err Malformed)) ≡ number (judged_question (not well) false done 0 0)
   unfolding judged_question judged_room
-  told true true = refl
-  told true false = refl
+  told true b = refl
   told false b = refl
 
   pub has_agrees : (h : List ℕ) → yes_no_number (has g h) ≡ number (judged_known h)

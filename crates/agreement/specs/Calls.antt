@@ -1,7 +1,7 @@
 -- The number of each C function, by its promise alone: 1 where what is lent is not valid, and else that of the paper's outcome. (What `cg_session` promises is the
 -- paper's already.)
 -- Assumes nothing.
-use Rattle.std.specs.Prelude.{◌≡◌, refl, Bool, true, false, ◌&&◌, List, ℕ, eqb, length}
+use Rattle.std.specs.Prelude.{◌≡◌, refl, Some, Bool, true, false, ◌&&◌, List, ℕ, eqb, length}
 use Rattle.std.proofs.Common.{ap, ◌∙◌}
 use Rattle.paper.specs.Numbers.{Outcome, number, done, not_valid}
 use Rattle.paper.specs.Adding.{Change, Verdict, outcome, judged}
@@ -17,9 +17,6 @@ use Rattle.judge.specs.Hub.{hub}
 use Rattle.judge.specs.HubLaws.{judged_agrees}
 use Rattle.judge.specs.Judge.{change}
 use Rattle.answer_buffer.specs.Answers.{place_number, yes_no_number, listed_number}
-use Rattle.answer_buffer.specs.declared.Place.{Place}
-use Rattle.answer_buffer.specs.declared.YesNo.{YesNo}
-use Rattle.answer_buffer.specs.declared.Listed.{Listed}
 use Rattle.lookups.specs.Lookups.{actor_listed}
 use Rattle.edges.specs.Told.{Checked}
 use Rattle.hub_answer.specs.Asks.{Reply, gives, reply_number, of_listed, of_place, of_yes_no, Asks, Tells}
@@ -47,15 +44,16 @@ use Rattle.hub_chained.specs.Operations.{IsChained}
 use Rattle.hub_batch.specs.Operations.{QueueOpened, BatchPushed}
 use Rattle.hub_queue.specs.Operations.{store_queue, HandedOver, BranchRemoved, QueueIsEmpty, QueueHasHash, QueueHasActorSeq, QueueGiven}
 use Rattle.hub_release.specs.Operations.{Stock, FreedBy}
-use Rattle.clock.specs.declared.Entry.TheVariants.{Sequence}
 use Rattle.clock_checked.specs.Told.{SliceAsked, get_told, op_told, remove_told, after_told, before_told}
 use Rattle.clock_struct.specs.Clocks.{StructDone, ClockIncluded, ClockMerged, ClockIsolated, ClockCovered}
 use Rattle.hub_clock_slices.specs.Face.{SliceGave, SliceChanged, range_of}
-use Rattle.queue.specs.Asked.{yes_or_no, queue_answer_number}
+use Rattle.waiting.specs.Refused.{queue_number}
+use Rattle.queue.specs.Asked.{yes_or_no}
 use Rattle.agreement.specs.ActorsAgree.{opening_agrees, inserting_agrees, removing_agrees}
 use Rattle.agreement.specs.AskingAgrees.{listed_reply, place_reply, yes_no_reply, look_up_agrees, has_agrees, current_agrees, index_agrees, actor_seq_agrees, owner_agrees, heads_agree, head_nodes_agree, deps_agree, missing_agrees, outside_agrees, clock_agrees, op_clock_agrees, actors_agree}
 use Rattle.agreement.specs.ClocksAgree.{ends_at_clock, begins_at_clock, get_agrees, include_agrees, isolate_agrees, op_agrees, remove_agrees, merge_agrees, covers_agrees, after_agrees, before_agrees}
 use Rattle.agreement.specs.PushingAgrees.{answer_room, push_agrees, hand_over_agrees, release_agrees, iter_agrees, waits_agrees}
+use Rattle.answer_buffer.specs.Answers.{Listed, Place, YesNo}
 
 -- where what is lent is valid r is the outcome's number, and else it is 1
 pub record CallGives (held : Type 0) (r : ℕ) (o : Outcome) : Type 0 where
@@ -177,9 +175,8 @@ module _ (r : ℕ) (t : Tables) (told told' : List ℕ) where
 -- ---- batch and queue
 
 -- a yes or no has the number 0
-told_done : (b : Bool) → queue_answer_number (yes_or_no b) ≡ number done
-told_done true = refl
-told_done false = refl
+told_done : (b : Bool) → queue_number (yes_or_no b) ≡ number done
+told_done b = refl
 
 module _ (r : ℕ) (s : Store) where
   pub queue_open_gives : (cs' : List ℕ) → QueueOpened s r cs' → CallGives (StoreLaid s.hashes s.numbers s.deps s.count) r done
@@ -248,7 +245,7 @@ module _ (r kind : ℕ) (b : List ℕ) (n : ℕ) (c : List ℕ) (m a counter : �
 -- as structs
 module _ (r : ℕ) (c : List ℕ) (n : ℕ) (c' : List ℕ) (n' : ℕ) where
   pub clock_include_gives : (a x : ℕ) (l l' : List ℕ) → ClockIncluded c n a x l r c' n' l' → r ≡ number (judged_lent (clock_lent n (length c)) (judged_place n a))
-  clock_include_gives a x l l' p = p.0.asked.number ∙ include_agrees c n a (Sequence x)
+  clock_include_gives a x l l' p = p.0.asked.number ∙ include_agrees c n a (Some x)
 
   pub clock_merge_gives : (b : List ℕ) (m : ℕ) → ClockMerged c n b m r c' n' → r ≡ number (judged_lent (clock_lent n (length c) && clock_lent m (length b)) done)
   clock_merge_gives b m p = ap (λ (d : StructDone). d.number) p.0 ∙ merge_agrees c n b m

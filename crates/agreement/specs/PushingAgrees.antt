@@ -15,12 +15,13 @@ use Rattle.judge.specs.Judge.{change}
 use Rattle.judge.specs.HubLaws.{hashes_count}
 use Rattle.ready.specs.Tables.{queue_of, known_in}
 use Rattle.waiting.specs.Valid.{room, waiting, has_actor_seq_in, is_roomy}
-use Rattle.batch.specs.Push.{pushed_number, is_malformed, push_judged}
-use Rattle.queue.specs.Hand.{handed_number, clash_at, any_clash, handed_as}
-use Rattle.queue.specs.Asked.{queue_answer_number, queue_listed_number, asked_hash, listed_as}
+use Rattle.waiting.specs.Refused.{queue_number}
+use Rattle.batch.specs.Push.{is_malformed, push_judged}
+use Rattle.queue.specs.Hand.{clash_at, any_clash, handed_as}
+use Rattle.queue.specs.Asked.{asked_hash, listed_as}
 use Rattle.queue.specs.AskedLaws.{known_has}
 use Rattle.queue_books.specs.Stays.{waiting_change}
-use Rattle.release.specs.Release.{released_number, ready_of, released_as}
+use Rattle.release.specs.Release.{ready_of, released_as}
 
 -- ---- an answer of whole records
 
@@ -43,14 +44,14 @@ roomy_agrees th tn td r =
     (and_both (leb (5 * r) (length tn)) (leb (1024 * r) (length td)) (le-leb (5 * r) (length tn) (omega arith)) (le-leb (1024 * r) (length td) (omega arith))))
 
 -- 15 exactly where not all fit
-released_room : (l th tn td : List ℕ) → released_number (released_as l th tn td) ≡ number (judged_room (length l) (answer_room th tn td))
+released_room : (l th tn td : List ℕ) → queue_number (released_as l th tn td) ≡ number (judged_room (length l) (answer_room th tn td))
 unfolding released_as judged_room
 released_room l th tn td =
     rw (roomy_agrees th tn td (length l))
     (by_bool (leb (length l) (answer_room th tn td)) (λ y. rw (y, le-ltb (answer_room th tn td) (length l) (leb-true (length l) (answer_room th tn td) y)))
     (λ n. rw (n, lt-ltb (answer_room th tn td) (length l) (leb-false (length l) (answer_room th tn td) n))))
 
-listed_room : (n : ℕ) (th tn td : List ℕ) → queue_listed_number (listed_as n th tn td) ≡ number (judged_room n (answer_room th tn td))
+listed_room : (n : ℕ) (th tn td : List ℕ) → queue_number (listed_as n th tn td) ≡ number (judged_room n (answer_room th tn td))
 unfolding listed_as judged_room
 listed_room n th tn td =
     rw (roomy_agrees th tn td n)
@@ -69,7 +70,7 @@ module _ (hs ns ds cs : List ℕ) where
   abbrev q : Queue
   q = queue_of hs ns ds (waiting cs)
 
-  pub push_agrees : (h : List ℕ) (key seq top ops : ℕ) (needs : List ℕ) → pushed_number (push_judged hs ns cs h key seq needs) ≡ number (judged_push (room hs) (queue_of hs ns ds (waiting cs)) (change h key seq top ops needs))
+  pub push_agrees : (h : List ℕ) (key seq top ops : ℕ) (needs : List ℕ) → queue_number (push_judged hs ns cs h key seq needs) ≡ number (judged_push (room hs) (queue_of hs ns ds (waiting cs)) (change h key seq top ops needs))
   unfolding push_judged is_malformed judged_push not_hash not_hashes has_actor_seq_in has_actor_seq
   push_agrees h key seq top ops needs =
       rw (hashes_count needs, known_has hs ns ds (waiting cs) h)
@@ -92,25 +93,25 @@ module _ (hs ns ds cs : List ℕ) where
         some_ext (clash_at hs ns (waiting cs) bhs bns) (λ i. has_hash q (hash_at bhs i) || has_actor_seq q (get_or bns (5 * i) 0) (get_or bns (5 * i + 1) 0)) (waiting bcs)
         (λ i l. ap (λ (b : Bool). b || has_actor_seq q (get_or bns (5 * i) 0) (get_or bns (5 * i + 1) 0)) (known_has hs ns ds (waiting cs) (hash_at bhs i)))
 
-    pub hand_over_agrees : handed_number (handed_as hs ns cs bhs bns bcs) ≡ number (judged_hand_over (room hs) (queue_of hs ns ds (waiting cs)) (queue_of bhs bns bds (waiting bcs)))
+    pub hand_over_agrees : queue_number (handed_as hs ns cs bhs bns bcs) ≡ number (judged_hand_over (room hs) (queue_of hs ns ds (waiting cs)) (queue_of bhs bns bds (waiting bcs)))
     unfolding handed_as judged_hand_over
     hand_over_agrees =
         rw clash_agrees
         (by_bool (clash_between q (queue_of bhs bns bds (waiting bcs))) (λ y. rw y)
         (λ n. rw n (by_bool (ltb (room hs) (waiting cs + waiting bcs)) (λ y. rw y) (λ n. rw n))))
 
-  pub waits_agrees : (h : List ℕ) → queue_answer_number (asked_hash (queue_of hs ns ds (waiting cs)) h) ≡ number (judged_waits h)
+  pub waits_agrees : (h : List ℕ) → queue_number (asked_hash (queue_of hs ns ds (waiting cs)) h) ≡ number (judged_waits h)
   unfolding asked_hash judged_waits judged_question judged_room not_hash
   waits_agrees h =
       by_bool (eqb (length h) 32)
-      (λ y. rw y (by_bool (has_hash q h) (λ y. rw y) (λ n. rw n)))
+      (λ y. rw y)
       (λ n. rw n)
 
   -- known are the first k of the hashes gs
-  pub release_agrees : (gs : List ℕ) (k : ℕ) (th tn td : List ℕ) → released_number (released_as (ready_of gs k hs ns ds cs) th tn td) ≡ number (judged_release (known_in gs k) (queue_of hs ns ds (waiting cs)) (answer_room th tn td))
+  pub release_agrees : (gs : List ℕ) (k : ℕ) (th tn td : List ℕ) → queue_number (released_as (ready_of gs k hs ns ds cs) th tn td) ≡ number (judged_release (known_in gs k) (queue_of hs ns ds (waiting cs)) (answer_room th tn td))
   unfolding judged_release ready_of
   release_agrees gs k th tn td = released_room (ready_of gs k hs ns ds cs) th tn td
 
-  pub iter_agrees : (th tn td : List ℕ) → queue_listed_number (listed_as (waiting cs) th tn td) ≡ number (judged_iter (queue_of hs ns ds (waiting cs)) (answer_room th tn td))
+  pub iter_agrees : (th tn td : List ℕ) → queue_number (listed_as (waiting cs) th tn td) ≡ number (judged_iter (queue_of hs ns ds (waiting cs)) (answer_room th tn td))
   unfolding judged_iter
   iter_agrees th tn td = listed_room (waiting cs) th tn td

@@ -1,6 +1,6 @@
 -- Demand 3 as C is answered: each sentence from the promises, and all of them from opened tables on, after any operations, refused ones among them.
 -- Assumes nothing.
-use Rattle.std.specs.Prelude.{◌≡◌, ◌↔◌, Bool, ◌&&◌, eqb, get_or}
+use Rattle.std.specs.Prelude.{◌≡◌, ◌↔◌, Result, Ok, Err, Bool, ◌&&◌, eqb, get_or}
 use Rattle.std.proofs.Math.Path.{refl, sym, ap, ap₂, subst}
 use Rattle.std.proofs.Common.{◌∙◌, inl, inr, length-take, take_at, get_or-set_same}
 use Rattle.std.proofs.Math.Logic.{⊎_elim}
@@ -30,16 +30,14 @@ use Rattle.tables.specs.Valid.{Lengths, Valid}
 use Rattle.tables.specs.DepsLaws.{valid_graph}
 use Rattle.clock.specs.Clock.{entry_of, joined, covers_all}
 use Rattle.clock.specs.ClockLaws.{length_joined, get_d_joined, covers_paper}
-use Rattle.clock_checked.specs.Told.{EntriesLeft, entries_left, clock_lendable, clock_number, slice_yes_in, clock_yes_no, merge_told, covers_told}
-use Rattle.clock_checked.specs.declared.Answer.{Answer}
-use Rattle.clock_checked.specs.declared.Answer.TheVariants.{Done as Merged, NotValid}
+use Rattle.clock_checked.specs.Told.{EntriesLeft, entries_left, clock_lendable, clock_number, slice_yes_in, merge_told, covers_told}
+use Rattle.clock_checked.specs.declared.ClockRefusal.{ClockRefusal}
+use Rattle.clock_checked.specs.declared.ClockRefusal.TheVariants.{NotValid}
 use Rattle.clock_struct.specs.Clocks.{StructDone}
 use Rattle.lent_place.specs.Places.{told_in}
 use Rattle.answer_buffer.specs.Answers.{list_answer, filled, whole_list}
 use Rattle.answer_buffer.specs.SlotLaws.{hashes_split, flat_hashes}
 use Rattle.answer_buffer.specs.Room.{actor_low}
-use Rattle.answer_buffer.specs.declared.Listed.{Listed}
-use Rattle.answer_buffer.specs.declared.Listed.TheVariants.{Done, Malformed, Short}
 use Rattle.list_clock.specs.Clocks.{clock_entries, whole_clock, clock_told, clock_filled}
 use Rattle.list_clock.specs.ClockLaws.{clock_long}
 use Rattle.missing.specs.Missing.{missing_hashes, missing_told, missing_filled}
@@ -51,6 +49,8 @@ use Rattle.hub_missing.specs.Operations.{MissingFrom}
 use Rattle.demands.specs.Operations.{Operation, open_for, Promised, Runs}
 use Rattle.demands.proofs.Demands.{demand_3}
 use Rattle.demand_three.specs.DemandThree.{in_history_of, hashes_outside, LargestIn, AnsweredClock, ToldChained, ClocksLargest, MergingAnswers, CoveringAnswers, MergeJoins, SlicesJoin, CoversContains, MissingOutside, MissingAll, DemandThree}
+use Rattle.answer_buffer.specs.Answers.{Listed}
+use Rattle.answer_buffer.specs.declared.Refusal.TheVariants.{Malformed, Short}
 
 -- ---- the hashes of bytes that stand one after the other
 
@@ -110,7 +110,7 @@ module _ (l out told out' told' : List ℕ) where
   unfolding list_answer filled
   list_at_start = go (leb (length l) (length out)) refl
     where
-      go : (b : Bool) → leb (length l) (length out) ≡ b → number done ≡ reply_number (of_listed (cond b (Done (length l)) Short)) → out' ≡ cond b (l ++ drop (length l) out) out → told' ≡ told_by (of_listed (cond b (Done (length l)) Short)) told → AtStart l out told out' told'
+      go : (b : Bool) → leb (length l) (length out) ≡ b → number done ≡ reply_number (of_listed (cond b (Ok (length l)) (Err Short))) → out' ≡ cond b (l ++ drop (length l) out) out → told' ≡ told_by (of_listed (cond b (Ok (length l)) (Err Short))) told → AtStart l out told out' told'
       go true e n f p = record { fits = leb-true (length l) (length out) e; buffer = f; places = p }
       go false e n f p = absurd (omega arith)
 
@@ -125,7 +125,7 @@ module _ (l out told out' told' : List ℕ) where
     start_told p = ap (λ (x : List ℕ). get_or x 0 0) s.places ∙ get_or-set_same told 0 (length l) 0 p
 
 -- behind a test of what was lent the answer 0 is that of what the test guards
-tested : (b : Bool) (x : Listed) (y out told out' told' : List ℕ) → number done ≡ reply_number (of_listed (cond b x Malformed)) → out' ≡ cond b y out → told' ≡ told_by (of_listed (cond b x Malformed)) told
+tested : (b : Bool) (x : Listed) (y out told out' told' : List ℕ) → number done ≡ reply_number (of_listed (cond b x (Err Malformed))) → out' ≡ cond b y out → told' ≡ told_by (of_listed (cond b x (Err Malformed))) told
     → (b ≡ true) × (number done ≡ reply_number (of_listed x)) × (out' ≡ y) × (told' ≡ told_by (of_listed x) told)
 tested true x y out told out' told' n f p = (refl, n, f, p)
 tested false x y out told out' told' n f p = absurd (omega arith)
@@ -133,40 +133,40 @@ tested false x y out told out' told' n f p = absurd (omega arith)
 -- ---- what an answer 0 of merging and covering comes to
 
 -- where the answer's number is 0 the entries are these
-abbrev Leaves : EntriesLeft → List ℕ → Type 0
+abbrev Leaves : EntriesLeft (Unit {0}) → List ℕ → Type 0
 Leaves t x = clock_number t.answer ≡ number done → t.entries ≡ x
 
 -- where its number is 0 the answer is this one
-abbrev Comes : Answer → Answer → Type 0
+abbrev Comes : Result Bool ClockRefusal → Result Bool ClockRefusal → Type 0
 Comes r x = clock_number r ≡ number done → r ≡ x
 
 -- behind a test of what is lent the rest decides
-leaves_where : (b : Bool) (c x : List ℕ) (t : EntriesLeft) → Leaves t x → Leaves (cond b t (entries_left NotValid c)) x
+leaves_where : (b : Bool) (c x : List ℕ) (t : EntriesLeft (Unit {0})) → Leaves t x → Leaves (cond b t (entries_left (Err NotValid) c)) x
 leaves_where true c x t k = k
 leaves_where false c x t k = λ z. absurd (omega arith)
 
-comes_where : (b : Bool) (x r : Answer) → Comes r x → Comes (cond b r NotValid) x
+comes_where : (b : Bool) (x r : Result Bool ClockRefusal) → Comes r x → Comes (cond b r (Err NotValid)) x
 comes_where true x r k = k
 comes_where false x r k = λ z. absurd (omega arith)
 
-leaves_these : (r : Answer) (x : List ℕ) → Leaves (entries_left r x) x
+leaves_these : (r : Result (Unit {0}) ClockRefusal) (x : List ℕ) → Leaves (entries_left r x) x
 leaves_these r x = λ z. refl
 
 module _ (c : List ℕ) (n : ℕ) (b : List ℕ) (m : ℕ) where
   -- the entries in use are joined, and those past them stay
   pub merge_done_lem : clock_number (merge_told c n b m).answer ≡ number done → (merge_told c n b m).entries ≡ joined (take n c) (take m b) ++ drop n c
-  merge_done_lem = let x = joined (take n c) (take m b) ++ drop n c in leaves_where (clock_lendable c n && clock_lendable b m) c x _ (leaves_these Merged x)
+  merge_done_lem = let x = joined (take n c) (take m b) ++ drop n c in leaves_where (clock_lendable c n && clock_lendable b m) c x _ (leaves_these (Ok tt) x)
 
   -- yes or no by the entries in use
-  pub covers_done : clock_number (covers_told c n b m) ≡ number done → covers_told c n b m ≡ clock_yes_no (covers_all (take n c) (take m b))
-  covers_done = let x = clock_yes_no (covers_all (take n c) (take m b)) in comes_where (clock_lendable c n && clock_lendable b m) x _ (same_count x (eqb n m))
+  pub covers_done : clock_number (covers_told c n b m) ≡ number done → covers_told c n b m ≡ Ok (covers_all (take n c) (take m b))
+  covers_done = let x : Result Bool ClockRefusal = Ok (covers_all (take n c) (take m b)) in comes_where (clock_lendable c n && clock_lendable b m) x _ (same_count x (eqb n m))
     where
-      same_count : (x : Answer) (e : Bool) → Comes (cond e x NotValid) x
+      same_count : (x : Result Bool ClockRefusal) (e : Bool) → Comes (cond e x (Err NotValid)) x
       same_count x true = λ z. refl
       same_count x false = λ z. absurd (omega arith)
 
 -- in a place that is lent yes is told as 1
-yes_told : (told : List ℕ) → 0 < length told → (b : Bool) → (get_or (slice_yes_in (clock_yes_no b) told) 0 0 ≡ 1) ↔ (b ≡ true)
+yes_told : (told : List ℕ) → 0 < length told → (b : Bool) → (get_or (slice_yes_in (Ok b) told) 0 0 ≡ 1) ↔ (b ≡ true)
 yes_told told lent true = ((λ _. refl), λ _. get_or-set_same told 0 1 0 lent)
 yes_told told lent false = ((λ z. let no = get_or-set_same told 0 0 0 lent in absurd (omega arith)), λ e. absurd (false≢true e))
 
@@ -254,11 +254,7 @@ module _ (t : Tables) (v : Valid t) where
 
   pub covering_answers : CoveringAnswers t
   covering_answers l m a b n k x y p q =
-      rw (answered_lendable x p, answered_lendable y q, eq-eqb n k (answered_count x ∙ sym (answered_count y))) (yes_no_done (covers_all (take n a) (take k b)))
-    where
-      yes_no_done : (b : Bool) → clock_number (clock_yes_no b) ≡ number done
-      yes_no_done true = refl
-      yes_no_done false = refl
+      rw (answered_lendable x p, answered_lendable y q, eq-eqb n k (answered_count x ∙ sym (answered_count y)))
 
   -- ---- (b) joining
 
@@ -276,7 +272,7 @@ module _ (t : Tables) (v : Valid t) where
   pub slices_join : SlicesJoin t
   slices_join l m a b c a' n k j r x y z d e =
       let w : length (take n a) ≡ n = ap length (answered_entries x) ∙ clock_long t l ∙ sym (answered_count x) in
-      let same : a' ≡ joined (take n a) (take k b) ++ drop n a = ap (λ (s : EntriesLeft). s.entries) e ∙ merge_done_lem a n b k (sym (ap (λ (s : EntriesLeft). clock_number s.answer) e) ∙ d) in (
+      let same : a' ≡ joined (take n a) (take k b) ++ drop n a = ap (λ (s : EntriesLeft (Unit {0})). s.entries) e ∙ merge_done_lem a n b k (sym (ap (λ (s : EntriesLeft (Unit {0})). clock_number s.answer) e) ∙ d) in (
         answered_count x ∙ sym (answered_count z),
         ap (take n) same
             ∙ take_at (joined (take n a) (take k b)) (drop n a) n (length_joined (take n a) (take k b) ∙ w)
@@ -314,10 +310,10 @@ module _ (t : Tables) (v : Valid t) where
   -- where `cg_chained` told yes, `cg_clock_covers` tells 1 exactly if every change in the second list's history is in the first list's
   pub covers_contains : CoversContains t
   covers_contains c l m a b told told' n k lent x y e =
-      let answer : covers_told a n b k ≡ clock_yes_no (covers_all (whole_clock t l) (whole_clock t m)) =
-      covers_done a n b k (sym e.number) ∙ ap₂ (λ (p q : List ℕ). clock_yes_no (covers_all p q)) (answered_entries x) (answered_entries y) in
-      let same : get_or told' 0 0 ≡ get_or (slice_yes_in (clock_yes_no (covers_all (whole_clock t l) (whole_clock t m))) told) 0 0 =
-      ap (λ (p : List ℕ). get_or p 0 0) (e.place ∙ ap (λ (p : Answer). slice_yes_in p told) answer) in
+      let answer : covers_told a n b k ≡ Ok (covers_all (whole_clock t l) (whole_clock t m)) =
+      covers_done a n b k (sym e.number) ∙ ap₂ (λ (p q : List ℕ). Ok (covers_all p q)) (answered_entries x) (answered_entries y) in
+      let same : get_or told' 0 0 ≡ get_or (slice_yes_in (Ok (covers_all (whole_clock t l) (whole_clock t m))) told) 0 0 =
+      ap (λ (p : List ℕ). get_or p 0 0) (e.place ∙ ap (λ (p : Result Bool ClockRefusal). slice_yes_in p told) answer) in
       let yes = yes_told told lent (covers_all (whole_clock t l) (whole_clock t m)) in
       let entries = covers_paper (whole_clock t l) (whole_clock t m) (clock_long t l ∙ sym (clock_long t m)) in
       let clocks = clocks_cover l m in
@@ -329,13 +325,13 @@ module _ (t : Tables) (v : Valid t) where
   -- ---- (d) the missing list
 
   missing_behind : (have out told out' told' : List ℕ) → MissingFrom have out told (number done) out' told' t
-      → (number done ≡ reply_number (of_listed (cond (eqb (length have) 0) (Done (32 * (graph t).size)) (list_answer (missing_hashes (graph t) have) (length out)))))
+      → (number done ≡ reply_number (of_listed (cond (eqb (length have) 0) (Ok (32 * (graph t).size)) (list_answer (missing_hashes (graph t) have) (length out)))))
       × (out' ≡ cond (eqb (length have) 0) out (filled (missing_hashes (graph t) have) out))
-      × (told' ≡ told_by (of_listed (cond (eqb (length have) 0) (Done (32 * (graph t).size)) (list_answer (missing_hashes (graph t) have) (length out)))) told)
+      × (told' ≡ told_by (of_listed (cond (eqb (length have) 0) (Ok (32 * (graph t).size)) (list_answer (missing_hashes (graph t) have) (length out)))) told)
   unfolding missing_told missing_filled
   missing_behind have out told out' told' p =
       let s = p.met v in
-      let q = tested (whole_list have) (cond (eqb (length have) 0) (Done (32 * (graph t).size)) (list_answer (missing_hashes (graph t) have) (length out))) (cond (eqb (length have) 0) out (filled (missing_hashes (graph t) have) out)) out told out' told'
+      let q = tested (whole_list have) (cond (eqb (length have) 0) (Ok (32 * (graph t).size)) (list_answer (missing_hashes (graph t) have) (length out))) (cond (eqb (length have) 0) out (filled (missing_hashes (graph t) have) out)) out told out' told'
       s.number s.filled s.places in
       (q.1, q.2, q.3)
 

@@ -1,13 +1,13 @@
 -- Demand 3 in the words of what C lends and is answered: bytes, entries and counts, by the promises of the functions that C calls and nothing else of them.
 -- Assumes nothing.
-use Rattle.std.specs.Prelude.{◌≡◌, ◌⊎◌, ◌↔◌, Bool, true, not, List, ◌++◌, map, ℕ, ◌*◌, ◌≤◌, ◌<◌, length, get_or, take, drop}
+use Rattle.std.specs.Prelude.{◌≡◌, ◌⊎◌, ◌↔◌, Result, Bool, true, not, List, ◌++◌, map, ℕ, ◌*◌, ◌≤◌, ◌<◌, length, get_or, take, drop}
 use Rattle.paper.specs.Lists.{pick, each_below, hashes_of}
 use Rattle.paper.specs.Numbers.{number, done}
 use Rattle.paper.specs.Text.{flat}
 use Rattle.paper.specs.Graph.{Reach, Held, hist, nodes}
 use Rattle.tables.specs.Tables.{Tables, graph, actors}
 use Rattle.clock_checked.specs.Told.{entries_left, clock_number, merge_told, covers_told}
-use Rattle.clock_checked.specs.declared.Answer.{Answer}
+use Rattle.clock_checked.specs.declared.ClockRefusal.{ClockRefusal}
 use Rattle.clock_struct.specs.Clocks.{ClockMerged, ClockCovered}
 use Rattle.hub_list_clock.specs.Operations.{ClockOf}
 use Rattle.hub_missing.specs.Operations.{MissingFrom}
@@ -94,7 +94,7 @@ MergeJoins t =
 -- so does `try_merge` on slices
 abbrev pub SlicesJoin : Tables → Type 0
 SlicesJoin t =
-    (l m a b c a' : List ℕ) (n k j : ℕ) (r : Answer) → AnsweredClock t l a n → AnsweredClock t m b k → AnsweredClock t (l ++ m) c j → clock_number r ≡ number done → entries_left r a' ≡ merge_told a n b k → (n ≡ j) × (take n a' ≡ take j c)
+    (l m a b c a' : List ℕ) (n k j : ℕ) (r : Result (Unit {0}) ClockRefusal) → AnsweredClock t l a n → AnsweredClock t m b k → AnsweredClock t (l ++ m) c j → clock_number r ≡ number done → entries_left r a' ≡ merge_told a n b k → (n ≡ j) × (take n a' ≡ take j c)
 
 -- where `cg_chained` told yes, `cg_clock_covers` tells 1 exactly if every change in the second list's history is in the first list's
 abbrev pub CoversContains : Tables → Type 0

@@ -1,6 +1,6 @@
 -- What `cg_add` leaves in the place for the unknown dependency; a known change is accepted and changes nothing, and its number is answered for no other.
 -- Assumes nothing.
-use Rattle.std.specs.Prelude.{◌≡◌, refl, Bool, true, false, not, cond, ◌||◌, List, ℕ, suc, ◌+◌, ◌%◌, ◌<◌, eqb, ltb, leb, length}
+use Rattle.std.specs.Prelude.{◌≡◌, refl, Bool, true, false, not, cond, ◌||◌, List, ℕ, suc, ◌+◌, ◌%◌, ◌<◌, eqb, ltb, leb, length, Ok, Err}
 use Rattle.std.proofs.Common.{sym, ap, ◌∙◌, arith}
 use Rattle.std.proofs.Math.Decide.{ℕ_discrete}
 use borrow.Author.Tests.{eqb-true, eqb-false, eq-eqb, lt-ltb, ltb-true, ltb-false}
@@ -14,8 +14,8 @@ use Rattle.tables.specs.Valid.{Valid}
 use Rattle.judge.specs.Hub.{hub}
 use Rattle.judge.specs.HubLaws.{judged_agrees}
 use Rattle.judge.specs.Judge.{tables_judged, judged_number, verdict}
-use Rattle.judge.specs.declared.Judged.{Judged}
-use Rattle.judge.specs.declared.Judged.TheVariants.{Done, Malformed, Known, Unknown, NoActor, WrongSequence, BadOps, TooManyDeps, NoNodeRoom, NoEdgeRoom}
+use Rattle.judge.specs.Judged.{Judged}
+use Rattle.judge.specs.declared.AddRefusal.TheVariants.{Malformed, Known, Unknown, NoActor, WrongSequence, BadOps, TooManyDeps, NoNodeRoom, NoEdgeRoom}
 use Rattle.lent_place.specs.Places.{told_in}
 use Rattle.hub_add.specs.Operations.{unknown_in, Added}
 use Rattle.demands.specs.Operations.{add}
@@ -124,28 +124,28 @@ plain_not : {C : Type 0} (o : Outcome) (i : ℕ) → plain o ≡ unknown i → C
 plain_not o i e = let z : ◌≡◌ {A = ℕ} 0 1 = cc in absurd (omega arith)
 
 told_first : (j : Judged) (i : ℕ) (l : List ℕ) → verdict j ≡ unknown i → unknown_in j l ≡ told_in i l
-told_first (Unknown k) i l e = ap (λ (n : ℕ). told_in n l) (ap position e)
-told_first Done i l e = plain_not done i e
-told_first Malformed i l e = plain_not malformed i e
-told_first Known i l e = plain_not already_known i e
-told_first NoActor i l e = plain_not no_actor i e
-told_first WrongSequence i l e = plain_not wrong_sequence i e
-told_first BadOps i l e = plain_not wrong_ops i e
-told_first TooManyDeps i l e = plain_not many_dependencies i e
-told_first NoNodeRoom i l e = plain_not no_node_room i e
-told_first NoEdgeRoom i l e = plain_not no_edge_room i e
+told_first (Err (Unknown k)) i l e = ap (λ (n : ℕ). told_in n l) (ap position e)
+told_first (Ok u) i l e = plain_not done i e
+told_first (Err Malformed) i l e = plain_not malformed i e
+told_first (Err Known) i l e = plain_not already_known i e
+told_first (Err NoActor) i l e = plain_not no_actor i e
+told_first (Err WrongSequence) i l e = plain_not wrong_sequence i e
+told_first (Err BadOps) i l e = plain_not wrong_ops i e
+told_first (Err TooManyDeps) i l e = plain_not many_dependencies i e
+told_first (Err NoNodeRoom) i l e = plain_not no_node_room i e
+told_first (Err NoEdgeRoom) i l e = plain_not no_edge_room i e
 
 untold : (j : Judged) (l : List ℕ) → (judged_number j ≡ number unknown_dependency → ⊥) → unknown_in j l ≡ l
-untold (Unknown k) l n = absurd (n refl)
-untold Done l n = refl
-untold Malformed l n = refl
-untold Known l n = refl
-untold NoActor l n = refl
-untold WrongSequence l n = refl
-untold BadOps l n = refl
-untold TooManyDeps l n = refl
-untold NoNodeRoom l n = refl
-untold NoEdgeRoom l n = refl
+untold (Err (Unknown k)) l n = absurd (n refl)
+untold (Ok u) l n = refl
+untold (Err Malformed) l n = refl
+untold (Err Known) l n = refl
+untold (Err NoActor) l n = refl
+untold (Err WrongSequence) l n = refl
+untold (Err BadOps) l n = refl
+untold (Err TooManyDeps) l n = refl
+untold (Err NoNodeRoom) l n = refl
+untold (Err NoEdgeRoom) l n = refl
 
 module _ (x : Change) (l l' : List ℕ) (t : Tables) (r : ℕ) (t' : Tables) (p : Added x l l' t r t') where
   abbrev first : ℕ

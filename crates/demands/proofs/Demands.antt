@@ -1,6 +1,6 @@
 -- Demand 3 as one theorem: by the promises of the operations alone, over any list of them.
 -- Assumes nothing.
-use Rattle.std.specs.Prelude.{◌≡◌, refl, Bool, true, false, cond, List, [], ◌∷◌, ℕ, leb}
+use Rattle.std.specs.Prelude.{◌≡◌, refl, Ok, Err, Bool, true, false, cond, List, [], ◌∷◌, ℕ, leb}
 use Rattle.std.proofs.Common.{sym, subst, arith, leb-true}
 use Rattle.std.proofs.Math.Decide.{ℕ_discrete}
 use Rattle.paper.specs.Numbers.{number, done}
@@ -8,7 +8,7 @@ use Rattle.tables.specs.Tables.{Tables, actor_room}
 use Rattle.tables.specs.Valid.{Lengths, Valid}
 use Rattle.cache.specs.CheckLaws.{forgotten_valid}
 use Rattle.actors.specs.Actors.{actor_number, opening, opened, if_actors_done}
-use Rattle.actors.specs.declared.ActorAnswer.TheVariants.{Done, NoRoom}
+use Rattle.actors.specs.declared.ActorRefusal.TheVariants.{NoRoom}
 use Rattle.actors.specs.Lives.{opened_valid, insert_valid, remove_valid}
 use Rattle.graph.specs.Life.{added_valid}
 use Rattle.load.specs.Loaded.{loads}
@@ -22,7 +22,7 @@ opening_valid : (a : ℕ) (t : Tables) → Lengths t → actor_number (opening t
 unfolding opening
 opening_valid a t l = go (leb a (actor_room t)) refl
   where
-    go : (b : Bool) → leb a (actor_room t) ≡ b → actor_number (cond b Done NoRoom) ≡ number done → Valid (if_actors_done (cond b Done NoRoom) (opened t a) t)
+    go : (b : Bool) → leb a (actor_room t) ≡ b → actor_number (cond b (Ok tt) (Err NoRoom)) ≡ number done → Valid (if_actors_done (cond b (Ok tt) (Err NoRoom)) (opened t a) t)
     go true e _ = opened_valid t a l (leb-true a (actor_room t) e)
     go false e z = absurd (omega arith)
 

@@ -6,8 +6,6 @@ use Rattle.paper.specs.Numbers.{done, not_valid}
 use Rattle.paper.specs.Graph.{Graph, change_at, owner}
 use Rattle.tables.specs.Tables.{Tables, graph}
 use Rattle.answer_buffer.specs.Answers.{list_answer, filled, whole_list, one_hash, node_hash, node_hash_filled}
-use Rattle.answer_buffer.specs.declared.Listed.{Listed}
-use Rattle.answer_buffer.specs.declared.Listed.TheVariants.{Done, Malformed, NotFound, NoOwner, Short}
 use Rattle.lookups.specs.Lookups.{actor_list}
 use Rattle.heads.specs.Heads.{head_hashes, head_places}
 use Rattle.list_clock.specs.Clocks.{whole_clock, clock_told, clock_filled}
@@ -32,6 +30,10 @@ use Rattle.hub_answer.specs.Asks.{Reply, gives, refuses, reply_number, told_by, 
 use Rattle.demands.specs.Refusals.{InTable, NotDone, DemandOne}
 use Rattle.demands.specs.RefusalLaws.{in_table, by_answer, either_way}
 use Rattle.demands.specs.Questions.{Question, clock_of, clock_at, missing_from, owner_of, heads, head_indexes, index_to_hash, hash_for_actor_seq, deps_for_hash, actor_ids, remove_ancestors, answer_on, buffer_on, Answers, NumberQuestion, hash_to_index, has_change, seq_of_actor, max_op_of_actor, max_op_of_all, how_many, how_many_actors, are_heads, chained_asked, reply_of, number_asked, AnswersNumber}
+use Rattle.answer_buffer.specs.Answers.{Listed}
+use Rattle.answer_buffer.specs.declared.Refusal.{Refusal}
+use Rattle.answer_buffer.specs.declared.Refusal.TheVariants.{Malformed, NotFound, NoOwner, Short}
+use Rattle.std.specs.Prelude.{Ok, Err}
 
 -- a refusal's number is not that of done
 abbrev refused_with : Listed → Type 0
@@ -41,7 +43,7 @@ list_kept : (l out : List ℕ) → refused_with (list_answer l (length out)) →
 unfolding list_answer filled
 list_kept l out = go (leb (length l) (length out))
   where
-    go : (b : Bool) → refused_with (cond b (Done (length l)) Short) → cond b (l ++ drop (length l) out) out ≡ out
+    go : (b : Bool) → refused_with (cond b (Ok (length l)) (Err Short)) → cond b (l ++ drop (length l) out) out ≡ out
     go true n = absurd (n refl)
     go false n = refl
 
@@ -51,33 +53,33 @@ either_kept true a c x out k n = k n
 either_kept false a c x out k n = refl
 
 -- the table itself is shown, or the list goes into the buffer
-table_kept : (b : Bool) (n : ℕ) (l out : List ℕ) → refused_with (cond b (Done n) (list_answer l (length out))) → cond b out (filled l out) ≡ out
+table_kept : (b : Bool) (n : ℕ) (l out : List ℕ) → refused_with (cond b (Ok n) (list_answer l (length out))) → cond b out (filled l out) ≡ out
 table_kept true n l out z = refl
 table_kept false n l out z = list_kept l out z
 
-node_kept : (g : Graph) (k : ℕ) (c : Listed) (out : List ℕ) → refused_with (node_hash g k c (length out)) → node_hash_filled g k out ≡ out
+node_kept : (g : Graph) (k : ℕ) (c : Refusal) (out : List ℕ) → refused_with (node_hash g k c (length out)) → node_hash_filled g k out ≡ out
 unfolding node_hash node_hash_filled
-node_kept g k c out = either_kept (ltb k g.size) (list_answer (g.hash k) (length out)) c (filled (g.hash k) out) out (list_kept (g.hash k) out)
+node_kept g k c out = either_kept (ltb k g.size) (list_answer (g.hash k) (length out)) (Err c) (filled (g.hash k) out) out (list_kept (g.hash k) out)
 
 kept : (q : Question) (t : Tables) (out : List ℕ) → refused_with (answer_on q (length out) t) → buffer_on q out t ≡ out
 unfolding clock_told clock_filled op_clock_told op_clock_filled missing_told missing_filled deps_told deps_filled removed_told removed_filled
-kept (clock_of l) t out = either_kept (whole_list l) (list_answer (whole_clock t l) (length out)) Malformed (filled (whole_clock t l) out) out (list_kept (whole_clock t l) out)
-kept (clock_at l) t out = either_kept (whole_list l) (list_answer (whole_op_clock t l) (length out)) Malformed (filled (whole_op_clock t l) out) out (list_kept (whole_op_clock t l) out)
+kept (clock_of l) t out = either_kept (whole_list l) (list_answer (whole_clock t l) (length out)) (Err Malformed) (filled (whole_clock t l) out) out (list_kept (whole_clock t l) out)
+kept (clock_at l) t out = either_kept (whole_list l) (list_answer (whole_op_clock t l) (length out)) (Err Malformed) (filled (whole_op_clock t l) out) out (list_kept (whole_op_clock t l) out)
 kept (missing_from have) t out =
     let l = missing_hashes (graph t) have in
-    let all = Done (32 * (graph t).size) in
+    let all : Listed = Ok (32 * (graph t).size) in
     let none = eqb (length have) 0 in
-    either_kept (whole_list have) (cond none all (list_answer l (length out))) Malformed (cond none out (filled l out)) out (table_kept none (32 * (graph t).size) l out)
+    either_kept (whole_list have) (cond none all (list_answer l (length out))) (Err Malformed) (cond none out (filled l out)) out (table_kept none (32 * (graph t).size) l out)
 kept (owner_of a c) t out = node_kept (graph t) (owner (graph t) a c) NoOwner out
 kept heads t out = list_kept (head_hashes (graph t)) out
 kept head_indexes t out = list_kept (head_places (graph t)) out
 kept (index_to_hash k) t out = node_kept (graph t) k NotFound out
 kept (hash_for_actor_seq a q) t out = node_kept (graph t) (change_at (graph t) a q) NotFound out
-kept (deps_for_hash h) t out = either_kept (one_hash h) (list_answer (hash_deps (graph t) h) (length out)) Malformed (filled (hash_deps (graph t) h) out) out (list_kept (hash_deps (graph t) h) out)
+kept (deps_for_hash h) t out = either_kept (one_hash h) (list_answer (hash_deps (graph t) h) (length out)) (Err Malformed) (filled (hash_deps (graph t) h) out) out (list_kept (hash_deps (graph t) h) out)
 kept (actor_ids w) t out = list_kept (actor_list t w) out
 kept (remove_ancestors l hs) t out =
     let r = outside_bytes (graph t) l hs in
-    either_kept (whole_list l && whole_list hs) (list_answer r (length out)) Malformed (filled r out) out (list_kept r out)
+    either_kept (whole_list l && whole_list hs) (list_answer r (length out)) (Err Malformed) (filled r out) out (list_kept r out)
 
 untold : (y : Reply) (told : List ℕ) → NotDone (reply_number y) → told_by y told ≡ told
 untold (gives n) told z = absurd (z refl)

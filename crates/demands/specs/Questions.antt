@@ -5,10 +5,6 @@ use Rattle.paper.specs.Graph.{change_at, owner, max_op_of}
 use Rattle.paper.specs.Adding.{seq_for_actor}
 use Rattle.tables.specs.Tables.{Tables, graph, actors}
 use Rattle.answer_buffer.specs.Answers.{list_answer, filled, node_hash, node_hash_filled}
-use Rattle.answer_buffer.specs.declared.Place.{Place}
-use Rattle.answer_buffer.specs.declared.YesNo.{YesNo}
-use Rattle.answer_buffer.specs.declared.Listed.{Listed}
-use Rattle.answer_buffer.specs.declared.Listed.TheVariants.{NotFound, NoOwner}
 use Rattle.lookups.specs.Lookups.{actor_list, looked_up, has, largest}
 use Rattle.lookups.specs.declared.Which.{Which}
 use Rattle.heads.specs.Heads.{head_hashes, head_places}
@@ -20,6 +16,9 @@ use Rattle.missing.specs.Missing.{missing_told, missing_filled}
 use Rattle.deps.specs.Deps.{deps_told, deps_filled}
 use Rattle.ancestors.specs.Ancestors.{removed_told, removed_filled}
 use Rattle.hub_answer.specs.Asks.{Reply, gives, of_listed, of_place, of_yes_no, of_bool, Asks, Tells}
+use Rattle.answer_buffer.specs.Answers.{Listed, Place, YesNo}
+use Rattle.answer_buffer.specs.declared.Refusal.TheVariants.{NotFound, NoOwner}
+use Rattle.std.specs.Prelude.{Err}
 
 pub data Question : Type 0 where
   clock_of : List ℕ → Question

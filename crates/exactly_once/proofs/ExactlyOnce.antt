@@ -1,7 +1,7 @@
 -- Over any calls of the C functions, refused ones among them, with any number of batches: every change taken in is waiting, in the queue or a batch, or released, or
 -- dropped, exactly once.
 -- Assumes nothing.
-use Rattle.std.specs.Prelude.{◌≡◌, refl, ◌⊎◌, true, List, [], ◌∷◌, ◌++◌, ℕ, ◌*◌, ◌<◌, ◌≤◌, eqb, leb, length, get_or}
+use Rattle.std.specs.Prelude.{◌≡◌, refl, ◌⊎◌, true, List, [], ◌∷◌, ◌++◌, ℕ, ◌*◌, ◌<◌, ◌≤◌, eqb, leb, length, get_or, Result, Ok}
 use Rattle.std.proofs.Common.{sym, ap, ◌∙◌, subst, inl, inr, ⊎_elim, append-nil, append_assoc, arith, eqb-true, leb-true, leb-false}
 use Rattle.std.proofs.Math.Decide.{ℕ_discrete}
 use Rattle.std.proofs.lemmas.Bool.{eqb-false}
@@ -13,9 +13,9 @@ use Rattle.tables.specs.Tables.{Tables, changes}
 use Rattle.ready.specs.Tables.{record_at, known_in}
 use Rattle.records.specs.Records.{Filled}
 use Rattle.waiting.specs.Valid.{Store, GoodStore, StoreLaid, room, store, is_roomy}
-use Rattle.release.specs.Release.{ready_of, GivenOut, ReleasedTo, released_number}
-use Rattle.release.specs.declared.Released.{Released}
-use Rattle.release.specs.declared.Released.TheVariants.{All}
+use Rattle.release.specs.Release.{ready_of, GivenOut, ReleasedTo}
+use Rattle.waiting.specs.Refused.{queue_number}
+use Rattle.waiting.specs.declared.QueueRefusal.{QueueRefusal}
 use Rattle.lent_place.specs.Places.{Numbered, told_in}
 use Rattle.paper.specs.Books.{Books, fresh, batch_at, with_batch, after_release, after_drop, after, after_all, changes_at, Balanced}
 use Rattle.paper.proofs.Books.{batch_same, batch_other, balanced_after, balanced_fresh}
@@ -100,11 +100,11 @@ given_stable n = record {
   queue = record { moved = filled_stable (λ x. n (λ g. x g.queue.moved)); count = stable _ _ (λ x. n (λ g. x g.queue.count)) };
 }
 
-given_all : {gs : List ℕ} {k : ℕ} {hs ns ds cs th tn td hs' ns' ds' cs' th' tn' td' : List ℕ} (a : Released) (m : ℕ) → a ≡ All m
+given_all : {gs : List ℕ} {k : ℕ} {hs ns ds cs th tn td hs' ns' ds' cs' th' tn' td' : List ℕ} (a : Result ℕ QueueRefusal) (m : ℕ) → a ≡ Ok m
     → ReleasedTo a gs k hs ns ds cs th tn td hs' ns' ds' cs' th' tn' td' → GivenOut gs k hs ns ds cs th tn td hs' ns' ds' cs' th' tn' td'
 unfolding ReleasedTo
 given_all {gs} {k} {hs} {ns} {ds} {cs} {th} {tn} {td} {hs'} {ns'} {ds'} {cs'} {th'} {tn'} {td'} a m e x =
-    subst (λ (b : Released). ReleasedTo b gs k hs ns ds cs th tn td hs' ns' ds' cs' th' tn' td') e x
+    subst (λ (b : Result ℕ QueueRefusal). ReleasedTo b gs k hs ns ds cs th tn td hs' ns' ds' cs' th' tn' td') e x
 
 -- the positions of the ready ones
 abbrev ready_in : Tables → Store → List ℕ
@@ -114,10 +114,10 @@ module _ (t : Tables) (a a' : AnswerTables) (q q' : Store) {r : ℕ} {l : List W
   was_held : Holding q l
   was_held = holding i (λ x. done_held p z not_one (λ v. x v.1))
 
-  all_given : (answer_of t.hashes (changes t) (stock_of q a) ≡ All (length (ready_in t q))) × (is_roomy (length a.hashes) (length a.numbers) (length a.deps) (length (ready_in t q)) ≡ true)
+  all_given : (answer_of t.hashes (changes t) (stock_of q a) ≡ Ok (length (ready_in t q))) × (is_roomy (length a.hashes) (length a.numbers) (length a.deps) (length (ready_in t q)) ≡ true)
   all_given =
       all_of (ready_in t q) a.hashes a.numbers a.deps (answer_of t.hashes (changes t) (stock_of q a)) refl
-      (same_number (released_number (answer_of t.hashes (changes t) (stock_of q a))) (number done) (λ d. done_held p z not_one (λ v. d (sym (p.met v).0 ∙ z))))
+      (same_number (queue_number (answer_of t.hashes (changes t) (stock_of q a))) (number done) (λ d. done_held p z not_one (λ v. d (sym (p.met v).0 ∙ z))))
 
   given_out : GivenOut t.hashes (changes t) q.hashes q.numbers q.deps q.count a.hashes a.numbers a.deps q'.hashes q'.numbers q'.deps q'.count a'.hashes a'.numbers a'.deps
   given_out = given_stable (λ d. done_held p z not_one (λ v. d (given_all (answer_of t.hashes (changes t) (stock_of q a)) (length (ready_in t q)) all_given.0 (p.met v).1.0)))
@@ -138,7 +138,7 @@ module _ (t : Tables) (a a' : AnswerTables) (q q' : Store) {r : ℕ} {l : List W
   release_told =
       stable _ _
       (λ d. done_held p z not_one
-      (λ v. d ((p.met v).1.1 ∙ (ap (λ (x : Released). released_count_in x a.told) all_given.0 ∙ ap (λ (n : ℕ). told_in n a.told) (sym (fewer_ready t.hashes (changes t) was_held all_given.1 given_out))))))
+      (λ v. d ((p.met v).1.1 ∙ (ap (λ (x : Result ℕ QueueRefusal). released_count_in x a.told) all_given.0 ∙ ap (λ (n : ℕ). told_in n a.told) (sym (fewer_ready t.hashes (changes t) was_held all_given.1 given_out))))))
 
 -- ---- one call that answers 0
 

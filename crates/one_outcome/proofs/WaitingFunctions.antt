@@ -1,12 +1,12 @@
 -- The C functions over a batch or a queue: two outcomes that meet a function's promise for the same input are one. Compared are the number, every table that is lent by `&mut`,
 -- and every told place; what is lent by `&` cannot change. Each theorem is named after its function and takes the promise as its `ensures` has it.
 -- Assumes nothing.
-use Rattle.std.specs.Prelude.{◌≡◌, List, ℕ}
+use Rattle.std.specs.Prelude.{◌≡◌, List, ℕ, Bool, Result}
 use Rattle.tables.specs.Tables.{changes}
 use Rattle.edges.specs.Edges.{lent}
 use Rattle.edges.specs.declared.Edge.{Edge}
 use Rattle.waiting.specs.Valid.{store}
-use Rattle.queue.specs.declared.QueueAnswer.{QueueAnswer}
+use Rattle.waiting.specs.declared.QueueRefusal.{QueueRefusal}
 use Rattle.hub_batch.specs.Operations.{QueueOpened, BatchPushed}
 use Rattle.hub_queue.specs.Operations.{HandedOver, BranchRemoved, QueueAsked, QueueIsEmpty, QueueHasHash, QueueHasActorSeq, QueueGiven}
 use Rattle.hub_release.specs.Operations.{stock, FreedBy}
@@ -22,7 +22,7 @@ module _ (hashes numbers deps count : List ℕ) where
   -- ---- questions
 
   module _ (told : List ℕ) (r' : ℕ) (told' : List ℕ) (r'' : ℕ) (told'' : List ℕ) where
-    queue_asked_once : {answer : QueueAnswer} → QueueAsked (store hashes numbers deps count) answer told r' told' → QueueAsked (store hashes numbers deps count) answer told r'' told'' → (r' ≡ r'') × (told' ≡ told'')
+    queue_asked_once : {answer : Result Bool QueueRefusal} → QueueAsked (store hashes numbers deps count) answer told r' told' → QueueAsked (store hashes numbers deps count) answer told r'' told'' → (r' ≡ r'') × (told' ≡ told'')
     queue_asked_once p q = let e = numbered_once p q in (e.0, e.1 (told' ≡ told'') (firm_list told' told'') (λ a l m. settled l m))
 
     pub cg_queue_is_empty_once : QueueIsEmpty (store hashes numbers deps count) told r' told' → QueueIsEmpty (store hashes numbers deps count) told r'' told'' → (r' ≡ r'') × (told' ≡ told'')

@@ -1,7 +1,7 @@
 -- Two outcomes that meet one promise for the same input are one, for each shape that the promises of the C functions have.
 -- Whether what is lent is valid need not be decidable: numbers and lists of numbers that cannot be different are the same.
 -- Assumes nothing.
-use Rattle.std.specs.Prelude.{◌≡◌, List, ℕ}
+use Rattle.std.specs.Prelude.{◌≡◌, Result, Bool, List, ℕ}
 use Rattle.std.proofs.Common.{sym, ap, ◌∙◌}
 use Rattle.std.proofs.Math.Decide.{ℕ_discrete}
 use Rattle.paper.specs.Adding.{Change}
@@ -15,8 +15,7 @@ use Rattle.hub_answer.specs.Asks.{Reply, Asks}
 use Rattle.hub_add.specs.Operations.{Added}
 use Rattle.lent_place.specs.Places.{Numbered}
 use Rattle.clock_checked.specs.Told.{SliceAsked, EntriesLeft}
-use Rattle.clock_checked.specs.declared.Answer.{Answer}
-use Rattle.clock_checked.specs.declared.Got.{Got}
+use Rattle.clock_checked.specs.declared.ClockRefusal.{ClockRefusal}
 use Rattle.hub_clock_slices.specs.Face.{SliceGave, SliceChanged}
 use Rattle.clock_struct.specs.Clocks.{StructDone, struct_done, StructEntered}
 use Rattle.demands.specs.RefusalLaws.{stable}
@@ -112,17 +111,17 @@ numbered_once {A} {number} {held} {good} {bad} {left'} {left''} {r'} {r''} p q =
 -- ---- clocks
 
 -- as slices
-pub slice_asked_once : {a : Answer} {l l' l'' : List ℕ} {r' r'' : ℕ} → SliceAsked a l r' l' → SliceAsked a l r'' l'' → (r' ≡ r'') × (l' ≡ l'')
+pub slice_asked_once : {a : Result Bool ClockRefusal} {l l' l'' : List ℕ} {r' r'' : ℕ} → SliceAsked a l r' l' → SliceAsked a l r'' l'' → (r' ≡ r'') × (l' ≡ l'')
 slice_asked_once p q = (settled p.number q.number, settled p.place q.place)
 
-pub slice_gave_once : {g : Got} {l l' l'' : List ℕ} {r' r'' : ℕ} → SliceGave g l r' l' → SliceGave g l r'' l'' → (r' ≡ r'') × (l' ≡ l'')
+pub slice_gave_once : {g : Result ℕ ClockRefusal} {l l' l'' : List ℕ} {r' r'' : ℕ} → SliceGave g l r' l' → SliceGave g l r'' l'' → (r' ≡ r'') × (l' ≡ l'')
 slice_gave_once p q = (settled p.number q.number, settled p.place q.place)
 
-pub slice_changed_once : {t : EntriesLeft} {c' c'' : List ℕ} {r' r'' : ℕ} → SliceChanged t r' c' → SliceChanged t r'' c'' → (r' ≡ r'') × (c' ≡ c'')
+pub slice_changed_once : {t : EntriesLeft (Unit {0})} {c' c'' : List ℕ} {r' r'' : ℕ} → SliceChanged t r' c' → SliceChanged t r'' c'' → (r' ≡ r'') × (c' ≡ c'')
 slice_changed_once p q = (settled p.number q.number, settled p.entries q.entries)
 
 -- as structs
-pub struct_entered_once : {t : EntriesLeft} {l l' l'' c' c'' : List ℕ} {r' r'' : ℕ} → StructEntered t l r' c' l' → StructEntered t l r'' c'' l'' → (r' ≡ r'') × (c' ≡ c'') × (l' ≡ l'')
+pub struct_entered_once : {t : EntriesLeft Bool} {l l' l'' c' c'' : List ℕ} {r' r'' : ℕ} → StructEntered t l r' c' l' → StructEntered t l r'' c'' l'' → (r' ≡ r'') × (c' ≡ c'') × (l' ≡ l'')
 struct_entered_once p q = let e = slice_asked_once p.asked q.asked in (e.0, settled p.entries q.entries, e.1)
 
 pub struct_done_once : {d : StructDone} {r' y' r'' y'' : ℕ} {c' c'' : List ℕ} → struct_done r' y' c' ≡ d → struct_done r'' y'' c'' ≡ d → (r' ≡ r'') × (y' ≡ y'') × (c' ≡ c'')
