@@ -259,7 +259,7 @@ def page(sources, promised, every, functions):
         "",
         "Who has little time reads the first group, `tables/specs/Tables.antt` and `Valid.antt`, and the C face.",
         "",
-        "The answers that a core gives are enums of the code, a word for each number or the number that was asked for, each in its crate's src/lib.rt: "
+        "The answers that a core gives are Options and Results; why there is none, and the other enums and structs that promises cite, stand in the src/lib.rt of their crates: "
         + ", ".join(f"`{crate}::{name}`" for crate, name in enums) + ".",
         "",
         "## What the promises rest on",

@@ -6,26 +6,26 @@ from .svg import Drawing, FILLS, MARK, SOFT
 
 # what runs: crate, function, words; what refuses there; what its promise cites: file below crates/, name, words
 STEPS = [
-    ("hub_missing", "cg_missing", "called by C; unpacks the edge records into two plain tables", "", "hub_missing/specs/Operations.antt", "MissingFrom", "what the call promises: number, buffer, place"),
-    ("hub_missing", "missing_told", "takes as many edges as were lent", "1 too many edges", "edges/specs/Told.antt", "AskedOverFirst", "the same of the first e edges"),
-    ("hub_missing", "missing_checked", "the shell: checks, asks, tells", "", "hub_answer/specs/Asks.antt", "Asks", "what every question promises"),
+    ("hub_missing", "cg_missing", "called by C; unpacks the edge records, asks, answers", "", "hub_missing/specs/Operations.antt", "MissingFrom", "what the call promises: number, buffer, place"),
+    ("hub_answer", "valid_tables", "the lent tables, where they are valid", "1 too many edges", "edges/specs/Edges.antt", "lent", "the tables that the lent records say"),
     ("cache", "valid", "the check of all that is lent", "1 the tables are not valid", "tables/specs/Valid.antt", "Valid", "valid tables, word by word"),
-    ("missing", "get_hashes", "the core: requires valid tables", "2 no hash list · 15 short buffer", "missing/specs/Missing.antt", "missing_told", "the answer over the paper's graph"),
-    ("list_clock", "list_clock", "the clock of the have-list", "", "paper/specs/Graph.antt", "clock", "the paper: largest sequence in the history"),
-    ("missing", "above_into", "counts, then writes the hashes in node order", "", "paper/specs/Graph.antt", "missing", "the paper: nodes above the clock"),
-    ("hub_answer", "listed", "the number of the answer, and its length told", "", "paper/specs/Numbers.antt", "number", "the paper's numbers"),
+    ("missing", "get_hashes", "the core: requires valid tables", "2 no list of hashes", "missing/specs/Missing.antt", "missing_told", "the answer, by the paper's missing (paper/specs/Graph.antt)"),
+    ("list_clock", "list_clock", "the clock of the have-list", "", "list_clock/specs/Clocks.antt", "Entries", "the entries, by the paper's clock (paper/specs/Graph.antt)"),
+    ("missing", "above_into", "counts, then writes the hashes in node order", "15 short buffer", "missing/specs/Missing.antt", "above_at", "over tables the paper's above (paper/specs/Graph.antt)"),
+    ("hub_answer", "listed", "the number of the answer, and its length told", "", "hub_answer/specs/Asks.antt", "reply_number", "of a reply the paper's number (paper/specs/Numbers.antt)"),
 ]
-DEPTH = [0, 1, 2, 3, 3, 4, 4, 3]
+DEPTH = [0, 1, 2, 1, 2, 2, 1]
 
 
 def checked(root):
-    for crate, function, _, _, path, name, _ in STEPS:
+    for crate, function, _, _, path, name, means in STEPS:
         source = open(os.path.join(root, "crates", crate, "src", "lib.rt"), encoding="utf-8").read()
         if not re.search(rf"\bfn {function}[(<]", source):
             raise SystemExit(f"tools/draw/call.py: {crate} has no function {function}")
-        spec = open(os.path.join(root, "crates", path), encoding="utf-8").read()
-        if not re.search(rf"pub (record )?{re.escape(name)} ", spec):
-            raise SystemExit(f"tools/draw/call.py: {path} has no definition {name}")
+        for word, file in [(name, path)] + re.findall(r"the paper's (\w+) \((.*?)\)", means):
+            spec = open(os.path.join(root, "crates", file), encoding="utf-8").read()
+            if not re.search(rf"pub (record )?{re.escape(word)} ", spec):
+                raise SystemExit(f"tools/draw/call.py: {file} has no definition {word}")
 
 
 def draw(root):
