@@ -124,6 +124,44 @@ module _ (s : (ℕ → ℕ) → ℕ → ℕ) (w : ℕ) (cs : List ℕ) where
 pub row_room : (k n w r : ℕ) → k < n → n * w ≤ r → k * w + w ≤ r
 row_room k n w r l b = let d : suc k * w ≤ n * w = mul-le-mul_right w l in let e = suc-mul k w in omega arith
 
+-- it is the clocks' shift that opens place p in a row, and closes it
+module _ (row : List ℕ) (w p : ℕ) (l : p < w) (long : length row ≡ w) where
+  pub row_widened : RowBy (widen p) w row (clock.inserted row (w - 1) p)
+  row_widened = (length_inserted row _ _ low room, at)
+    where
+      low : p ≤ w - 1
+      low = omega arith
+
+      room : w - 1 < length row
+      room = omega arith
+
+      high : (i : ℕ) → i < w → p < i → get_or (clock.inserted row (w - 1) p) i 0 ≡ widen p (clock.entry_of row) i
+      high zero h q = absurd (omega arith)
+      high (suc i) h q =
+          let z : suc i - 1 ≡ i = omega arith in
+          rw (le-ltb (suc i) p (omega arith), ne_eqb (suc i) p (λ e. omega arith), z) (inserted_high _ _ _ low room i (omega arith) (omega arith))
+
+      at : (i : ℕ) → i < w → get_or (clock.inserted row (w - 1) p) i 0 ≡ widen p (clock.entry_of row) i
+      at i h =
+          ⊎_elim (λ q. rw (lt-ltb i p q) (inserted_low _ _ _ low room i q))
+          (⊎_elim (λ q. rw (le-ltb i p (omega arith), eq-eqb i p q, q) (inserted_here _ _ _ low room)) (high i h))
+          (three_ways i p)
+
+  pub row_narrowed : RowBy (narrow p) w row (clock.removed row w p)
+  row_narrowed = (length_removed row _ _ l room, at)
+    where
+      room : w ≤ length row
+      room = omega arith
+
+      at : (i : ℕ) → i < w → get_or (clock.removed row w p) i 0 ≡ narrow p (clock.entry_of row) i
+      at i h =
+          ⊎_elim (λ q. rw (lt-ltb i p q) (removed_low _ _ _ l room i q))
+          (λ q.
+          ⊎_elim (λ y. rw (le-ltb i p q) (removed_high _ _ _ l room i q y))
+          (λ n. rw (le-ltb i p q) (removed_free _ _ _ l room i (omega arith) ∙ sym (get_or-eq_default row 0 {n = suc i} (omega arith))))
+          (below_or_not (suc i) w))
+          (below_or_not i p)
+
 -- ---- the row of w entries from b on, lent: what a function gets that is lent `&mut cs[b..b + w]`, and cs once the row is put back
 
 abbrev lent : ℕ → ℕ → List ℕ → List ℕ
@@ -159,43 +197,12 @@ module _ (cs : List ℕ) (b w : ℕ) (fits : b + w ≤ length cs) where
   pub changed_back : (s : (ℕ → ℕ) → ℕ → ℕ) (row : List ℕ) → RowBy s w (lent b w cs) row → put b w cs row ≡ row_filled b (s (row_at cs b w)) w cs
   changed_back s row r = all_back (s (row_at cs b w)) row (r.0 ∙ lent_long) (λ i h. r.1 i h ∙ ap (λ (c : ℕ → ℕ). s c i) lent_row)
 
--- it is the clocks' shift that opens place p in a row, and closes it
-module _ (row : List ℕ) (w p : ℕ) (l : p < w) (long : length row ≡ w) where
-  pub widened : RowBy (widen p) w row (clock.inserted row (w - 1) p)
-  widened = (length_inserted row _ _ low room, at)
-    where
-      low : p ≤ w - 1
-      low = omega arith
+  -- so they open place p of the row in the table, and close it
+  pub widened : {p : ℕ} {row : List ℕ} → p < w → row ≡ clock.inserted (lent b w cs) (w - 1) p → put b w cs row ≡ row_filled b (widen p (row_at cs b w)) w cs
+  widened {p} {row} l e = changed_back (widen p) row (rw e (row_widened (lent b w cs) w p l lent_long))
 
-      room : w - 1 < length row
-      room = omega arith
-
-      high : (i : ℕ) → i < w → p < i → get_or (clock.inserted row (w - 1) p) i 0 ≡ widen p (clock.entry_of row) i
-      high zero h q = absurd (omega arith)
-      high (suc i) h q =
-          let z : suc i - 1 ≡ i = omega arith in
-          rw (le-ltb (suc i) p (omega arith), ne_eqb (suc i) p (λ e. omega arith), z) (inserted_high _ _ _ low room i (omega arith) (omega arith))
-
-      at : (i : ℕ) → i < w → get_or (clock.inserted row (w - 1) p) i 0 ≡ widen p (clock.entry_of row) i
-      at i h =
-          ⊎_elim (λ q. rw (lt-ltb i p q) (inserted_low _ _ _ low room i q))
-          (⊎_elim (λ q. rw (le-ltb i p (omega arith), eq-eqb i p q, q) (inserted_here _ _ _ low room)) (high i h))
-          (three_ways i p)
-
-  pub narrowed : RowBy (narrow p) w row (clock.removed row w p)
-  narrowed = (length_removed row _ _ l room, at)
-    where
-      room : w ≤ length row
-      room = omega arith
-
-      at : (i : ℕ) → i < w → get_or (clock.removed row w p) i 0 ≡ narrow p (clock.entry_of row) i
-      at i h =
-          ⊎_elim (λ q. rw (lt-ltb i p q) (removed_low _ _ _ l room i q))
-          (λ q.
-          ⊎_elim (λ y. rw (le-ltb i p q) (removed_high _ _ _ l room i q y))
-          (λ n. rw (le-ltb i p q) (removed_free _ _ _ l room i (omega arith) ∙ sym (get_or-eq_default row 0 {n = suc i} (omega arith))))
-          (below_or_not (suc i) w))
-          (below_or_not i p)
+  pub narrowed : {p : ℕ} {row : List ℕ} → p < w → row ≡ clock.removed (lent b w cs) w p → put b w cs row ≡ row_filled b (narrow p (row_at cs b w)) w cs
+  narrowed {p} {row} l e = changed_back (narrow p) row (rw e (row_narrowed (lent b w cs) w p l lent_long))
 
 -- ---- the answers, each from its condition
 

@@ -14,7 +14,7 @@ use Rattle.paper.proofs.Each.{length_each}
 use Rattle.paper.specs.Asking.{not_hash, not_hashes, judged_room, judged_question, judged_look_up, judged_known, judged_node, judged_index, judged_actor_seq, judged_owner, judged_actors, judged_heads, judged_head_nodes, judged_current, judged_deps, judged_clock, judged_missing, judged_outside}
 use Rattle.tables.specs.Tables.{Tables, graph, actors}
 use Rattle.judge.specs.Hub.{hub}
-use Rattle.answer_buffer.specs.Answers.{refusal_number, place_number, yes_no_number, listed_number, list_answer, one_hash, whole_list, node_hash}
+use Rattle.answer_buffer.specs.Answers.{place_number, yes_no_number, listed_number, list_answer, one_hash, whole_list, node_hash}
 use Rattle.lookups.specs.Lookups.{looked_up, has, actor_listed, actor_list}
 use Rattle.lookups.specs.declared.Which.{Which}
 use Rattle.heads.specs.Heads.{head_hashes, head_places}
@@ -26,7 +26,6 @@ use Rattle.deps.specs.Deps.{deps_told, hash_deps, node_deps}
 use Rattle.ancestors.specs.Ancestors.{removed_told, outside_bytes}
 use Rattle.hub_answer.specs.Asks.{reply_number, of_listed, of_place, of_yes_no}
 use Rattle.answer_buffer.specs.Answers.{Listed, Place, YesNo}
-use Rattle.answer_buffer.specs.declared.Refusal.{Refusal}
 use Rattle.answer_buffer.specs.declared.Refusal.TheVariants.{Malformed, NotFound, NoOwner, Short}
 use Rattle.std.specs.Prelude.{true, false, Ok, Err}
 
@@ -52,7 +51,7 @@ shown_agrees true n room = rw (le-ltb room 0 (omega arith))
 shown_agrees false n room = refl
 
 -- a node's hash is answered, or it is refused
-pub node_agrees : (g : Graph) (k : ℕ) (refusal : Refusal) (o : Outcome) (room : ℕ) → refusal_number refusal ≡ number o → listed_number (node_hash g k refusal room) ≡ number (judged_node g k o room)
+pub node_agrees : (g : Graph) (k : ℕ) (refusal : Listed) (o : Outcome) (room : ℕ) → listed_number refusal ≡ number o → listed_number (node_hash g k refusal room) ≡ number (judged_node g k o room)
 unfolding node_hash judged_node judged_question
 node_agrees g k refusal o room e =
     by_bool (ltb k g.size) (λ y. rw (y, lt-leb g.size k (ltb-true k g.size y)) (room_agrees (g.hash k) room))
@@ -112,17 +111,17 @@ module _ (g : Graph) where
   unfolding current_told judged_current not_hashes
   current_agrees bytes = told (whole_list bytes) (current g bytes)
 
-  pub index_agrees : (k room : ℕ) → listed_number (node_hash g k NotFound room) ≡ number (judged_index g k room)
+  pub index_agrees : (k room : ℕ) → listed_number (node_hash g k (Err NotFound) room) ≡ number (judged_index g k room)
   unfolding judged_index
-  index_agrees k room = node_agrees g k NotFound not_found room refl
+  index_agrees k room = node_agrees g k (Err NotFound) not_found room refl
 
-  pub actor_seq_agrees : (a q room : ℕ) → listed_number (node_hash g (change_at g a q) NotFound room) ≡ number (judged_actor_seq g a q room)
+  pub actor_seq_agrees : (a q room : ℕ) → listed_number (node_hash g (change_at g a q) (Err NotFound) room) ≡ number (judged_actor_seq g a q room)
   unfolding judged_actor_seq
-  actor_seq_agrees a q room = node_agrees g (change_at g a q) NotFound not_found room refl
+  actor_seq_agrees a q room = node_agrees g (change_at g a q) (Err NotFound) not_found room refl
 
-  pub owner_agrees : (a c room : ℕ) → listed_number (node_hash g (owner g a c) NoOwner room) ≡ number (judged_owner g a c room)
+  pub owner_agrees : (a c room : ℕ) → listed_number (node_hash g (owner g a c) (Err NoOwner) room) ≡ number (judged_owner g a c room)
   unfolding judged_owner
-  owner_agrees a c room = node_agrees g (owner g a c) NoOwner no_owner room refl
+  owner_agrees a c room = node_agrees g (owner g a c) (Err NoOwner) no_owner room refl
 
   -- ---- lists
 

@@ -6,8 +6,7 @@ use Rattle.std.proofs.lemmas.Bool.{lt-leb}
 use Rattle.paper.specs.Graph.{Graph}
 use Rattle.paper.specs.Text.{flat}
 use Rattle.list_laws.specs.Over.{over, over_over, over_length, over_none}
-use Rattle.answer_buffer.specs.Answers.{list_answer, filled, node_hash, node_hash_filled}
-use Rattle.answer_buffer.specs.declared.Refusal.{Refusal}
+use Rattle.answer_buffer.specs.Answers.{Listed, list_answer, filled, node_hash, node_hash_filled}
 use Rattle.answer_buffer.specs.declared.Refusal.TheVariants.{Short}
 
 pub listed_done : (l : List ℕ) (room : ℕ) → length l ≤ room → list_answer l room ≡ Ok (length l)
@@ -28,11 +27,11 @@ filled_short l out h = rw (lt-leb _ _ h)
 
 -- a node's hash
 module _ (g : Graph) (k : ℕ) where
-  pub node_told : (refusal : Refusal) (room : ℕ) → k < g.size → node_hash g k refusal room ≡ list_answer (g.hash k) room
+  pub node_told : (refusal : Listed) (room : ℕ) → k < g.size → node_hash g k refusal room ≡ list_answer (g.hash k) room
   unfolding node_hash
   node_told refusal room l = rw (lt-ltb k g.size l)
 
-  pub node_refused : (refusal : Refusal) (room : ℕ) → g.size ≤ k → node_hash g k refusal room ≡ Err refusal
+  pub node_refused : (refusal : Listed) (room : ℕ) → g.size ≤ k → node_hash g k refusal room ≡ refusal
   unfolding node_hash
   node_refused refusal room l = rw (le-ltb k g.size l)
 

@@ -53,8 +53,8 @@ abbrev pub whole_list : List ℕ → Bool
 whole_list bytes = eqb (length bytes % 32) 0
 
 -- the hash of node k as an answer, and the buffer afterwards; where k is no node, the refusal
-unfoldable pub node_hash : Graph → ℕ → Refusal → ℕ → Listed
-node_hash g k refusal room = cond (ltb k g.size) (list_answer (g.hash k) room) (Err refusal)
+unfoldable pub node_hash : Graph → ℕ → Listed → ℕ → Listed
+node_hash g k refusal room = cond (ltb k g.size) (list_answer (g.hash k) room) refusal
 
 unfoldable pub node_hash_filled : Graph → ℕ → List ℕ → List ℕ
 node_hash_filled g k out = cond (ltb k g.size) (filled (g.hash k) out) out

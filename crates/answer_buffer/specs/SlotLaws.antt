@@ -5,7 +5,7 @@ use Rattle.std.specs.Prelude.{refl, Bool, true, false, ℕ, zero, suc, ◌+◌, 
 use Rattle.std.specs.Ordering.{nat_cmp, ordering_then}
 use Rattle.std.specs.Cmp.Lexicographic.{slice_cmp}
 use borrow.Author.Tests.{ltb-true, eqb-true}
-use Rattle.std.proofs.Common.{◌∙◌, add-one, length-append, length-take, length-drop, take-append-drop, take-suc, drop-cons, take-add, drop-drop, get_or-take, lt-ltb, le-ltb}
+use Rattle.std.proofs.Common.{◌∙◌, add-one, ne_eqb, length-append, length-take, length-drop, take-append-drop, take-suc, drop-cons, take-add, drop-drop, get_or-take, lt-ltb, le-ltb}
 use Rattle.std.proofs.Math.Bool.{cond}
 use mathlib.Core.List.{List, [], ◌∷◌, ◌++◌, append_assoc}
 use Rattle.std.proofs.Math.Nat.{sub-zero}
@@ -83,6 +83,12 @@ module _ (xs : List ℕ) (k : ℕ) (ys : List ℕ) (i : ℕ) (fx : 32 * k + 32 �
 
   pub order_greater : j < 32 → (get_or xs (32 * k + j) 0 ≡ get_or ys (32 * i + j) 0 → ⊥) → get_or ys (32 * i + j) 0 ≤ get_or xs (32 * k + j) 0 → order_of (drop j (hash_at xs k)) (drop j (hash_at ys i)) ≡ Greater
   order_greater l n b = stop false l n (le-ltb _ _ b)
+
+  -- where they part at byte j, that byte decides
+  pub order_parts : j < 32 → (get_or xs (32 * k + j) 0 ≡ get_or ys (32 * i + j) 0 → ⊥) → nat_cmp (get_or xs (32 * k + j) 0) (get_or ys (32 * i + j) 0) ≡ order_of (drop j (hash_at xs k)) (drop j (hash_at ys i))
+  order_parts l n =
+      by_bool (ltb (get_or xs (32 * k + j) 0) (get_or ys (32 * i + j) 0)) (λ t. rw t (sym (stop true l n t)))
+      (λ f. rw (f, ne_eqb (get_or xs (32 * k + j) 0) (get_or ys (32 * i + j) 0) n) (sym (stop false l n f)))
 
   pub order_same : 32 ≤ j → order_of (drop j (hash_at xs k)) (drop j (hash_at ys i)) ≡ Equal
   unfolding order_of

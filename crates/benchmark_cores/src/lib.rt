@@ -2,7 +2,7 @@
 // call them with tables that it has not checked; they are not in libchangegraph.a.
 #![tactic(auto)]
 
-ghost use Rattle.std.specs.Prelude.{◌≡◌, length};
+ghost use Rattle.std.specs.Prelude.{◌≡◌, Err, length};
 ghost use Rattle.paper.specs.Graph.{owner};
 ghost use Rattle.tables.specs.Tables.{tables, graph};
 ghost use Rattle.tables.specs.Valid.{Valid};
@@ -116,7 +116,7 @@ pub extern "C" fn bare_owner(
     out: &mut [u8],
 ) -> u32
     requires { Valid (tables hashes.now nodes.now targets.now nexts.now clocks.now counts.now) }
-    ensures value { result ≡ listed_number (node_hash (graph (tables hashes.now nodes.now targets.now nexts.now clocks.now counts.now)) (owner (graph (tables hashes.now nodes.now targets.now nexts.now clocks.now counts.now)) actor counter) NoOwner (length out.old)) }
+    ensures value { result ≡ listed_number (node_hash (graph (tables hashes.now nodes.now targets.now nexts.now clocks.now counts.now)) (owner (graph (tables hashes.now nodes.now targets.now nexts.now clocks.now counts.now)) actor counter) (Err NoOwner) (length out.old)) }
     ensures out_after { out.new ≡ node_hash_filled (graph (tables hashes.now nodes.now targets.now nexts.now clocks.now counts.now)) (owner (graph (tables hashes.now nodes.now targets.now nexts.now clocks.now counts.now)) actor counter) out.old }
 {
     let tables = Tables {

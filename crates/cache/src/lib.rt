@@ -171,7 +171,7 @@ fn row_is(clock: &[u32], rows: &[u32], from: usize) -> bool
     requires { from + length clock.now ≤ length rows.now }
     ensures { (result ≡ true) ↔ RowIs rows.now from clock.now }
 {
-    &rows[from..from + clock.len()] == clock
+    (0..clock.len()).all(|a| rows[from + a] == clock[a])
 }
 
 // The clock of node `k`, by the rows below it.

@@ -12,7 +12,7 @@ abbrev pub struct_done : ℕ → ℕ → List ℕ → StructDone
 struct_done r y c = record { number = r; yes = y; entries = c }
 
 -- merge and isolate have no yes or no: 0 stands there
-abbrev pub plain_of : EntriesLeft (Unit {0}) → StructDone
+abbrev pub plain_of : {A : Type 0} → EntriesLeft A → StructDone
 plain_of t = struct_done (clock_number t.answer) 0 t.entries
 
 abbrev pub merge_done : List ℕ → ℕ → List ℕ → ℕ → StructDone

@@ -10,5 +10,5 @@ use Rattle.clock_struct.specs.Clocks.{struct_done, plain_of, StructEntered}
 pub enters : (a : Result Bool ClockRefusal) (e : List ℕ) (t : EntriesLeft Bool) (n : ℕ) → entries_left a e ≡ t → n ≡ clock_number a → (l l' : List ℕ) → l' ≡ slice_yes_in a l → StructEntered t l n e l'
 enters a e t n p q l l' s = record { asked = asks a t.answer l n l' (ap (λ (x : EntriesLeft Bool). x.answer) p) q s; entries = ap (λ (x : EntriesLeft Bool). x.entries) p }
 
-pub done_plain : (a : Result (Unit {0}) ClockRefusal) (e : List ℕ) (t : EntriesLeft (Unit {0})) (n : ℕ) → entries_left a e ≡ t → n ≡ clock_number a → struct_done n 0 e ≡ plain_of t
+pub done_plain : {A : Type 0} (a : Result A ClockRefusal) (e : List ℕ) (t : EntriesLeft A) (n : ℕ) → entries_left a e ≡ t → n ≡ clock_number a → struct_done n 0 e ≡ plain_of t
 done_plain a e t n p q = rw (← p, ← q)

@@ -36,7 +36,7 @@ include_demand c n place x told r c' n' told' p =
     all a b d = rw (a, b, d)
 
 -- a change that says no yes or no
-plain_demand : (t : EntriesLeft (Unit {0})) (c : List ℕ) (n r : ℕ) (c' : List ℕ) (n' : ℕ) → Keeps t c → (struct_done r 0 c' ≡ plain_of t) × (n' ≡ n) → DemandOne r (c ∷ (n ∷ []) ∷ []) (c' ∷ (n' ∷ []) ∷ [])
+plain_demand : {A : Type 0} (t : EntriesLeft A) (c : List ℕ) (n r : ℕ) (c' : List ℕ) (n' : ℕ) → Keeps t c → (struct_done r 0 c' ≡ plain_of t) × (n' ≡ n) → DemandOne r (c ∷ (n ∷ []) ∷ []) (c' ∷ (n' ∷ []) ∷ [])
 plain_demand t c n r c' n' k p =
     by_answer (ap (λ (d : StructDone). d.number) p.0) (in_table (clock_outcome t.answer)) (λ z. both (ap (λ (d : StructDone). d.entries) p.0 ∙ k z) p.1)
   where
@@ -57,5 +57,5 @@ slice_asked_demand a l r l' p = by_answer p.number (in_table (clock_outcome a)) 
 pub slice_gave_demand : (g : Result ℕ ClockRefusal) (l : List ℕ) (r : ℕ) (l' : List ℕ) → SliceGave g l r l' → DemandOne r (l ∷ []) (l' ∷ [])
 slice_gave_demand g l r l' p = by_answer p.number (in_table (clock_outcome g)) (λ n. one (p.place ∙ entry_untold g l n))
 
-pub slice_changed_demand : (t : EntriesLeft (Unit {0})) (c : List ℕ) (r : ℕ) (c' : List ℕ) → Keeps t c → SliceChanged t r c' → DemandOne r (c ∷ []) (c' ∷ [])
+pub slice_changed_demand : {A : Type 0} (t : EntriesLeft A) (c : List ℕ) (r : ℕ) (c' : List ℕ) → Keeps t c → SliceChanged t r c' → DemandOne r (c ∷ []) (c' ∷ [])
 slice_changed_demand t c r c' k p = by_answer p.number (in_table (clock_outcome t.answer)) (λ n. one (p.entries ∙ k n))

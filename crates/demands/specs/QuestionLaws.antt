@@ -31,7 +31,6 @@ use Rattle.demands.specs.Refusals.{InTable, NotDone, DemandOne}
 use Rattle.demands.specs.RefusalLaws.{in_table, by_answer, either_way}
 use Rattle.demands.specs.Questions.{Question, clock_of, clock_at, missing_from, owner_of, heads, head_indexes, index_to_hash, hash_for_actor_seq, deps_for_hash, actor_ids, remove_ancestors, answer_on, buffer_on, Answers, NumberQuestion, hash_to_index, has_change, seq_of_actor, max_op_of_actor, max_op_of_all, how_many, how_many_actors, are_heads, chained_asked, reply_of, number_asked, AnswersNumber}
 use Rattle.answer_buffer.specs.Answers.{Listed}
-use Rattle.answer_buffer.specs.declared.Refusal.{Refusal}
 use Rattle.answer_buffer.specs.declared.Refusal.TheVariants.{Malformed, NotFound, NoOwner, Short}
 use Rattle.std.specs.Prelude.{Ok, Err}
 
@@ -57,9 +56,9 @@ table_kept : (b : Bool) (n : ℕ) (l out : List ℕ) → refused_with (cond b (O
 table_kept true n l out z = refl
 table_kept false n l out z = list_kept l out z
 
-node_kept : (g : Graph) (k : ℕ) (c : Refusal) (out : List ℕ) → refused_with (node_hash g k c (length out)) → node_hash_filled g k out ≡ out
+node_kept : (g : Graph) (k : ℕ) (c : Listed) (out : List ℕ) → refused_with (node_hash g k c (length out)) → node_hash_filled g k out ≡ out
 unfolding node_hash node_hash_filled
-node_kept g k c out = either_kept (ltb k g.size) (list_answer (g.hash k) (length out)) (Err c) (filled (g.hash k) out) out (list_kept (g.hash k) out)
+node_kept g k c out = either_kept (ltb k g.size) (list_answer (g.hash k) (length out)) c (filled (g.hash k) out) out (list_kept (g.hash k) out)
 
 kept : (q : Question) (t : Tables) (out : List ℕ) → refused_with (answer_on q (length out) t) → buffer_on q out t ≡ out
 unfolding clock_told clock_filled op_clock_told op_clock_filled missing_told missing_filled deps_told deps_filled removed_told removed_filled
@@ -70,11 +69,11 @@ kept (missing_from have) t out =
     let all : Listed = Ok (32 * (graph t).size) in
     let none = eqb (length have) 0 in
     either_kept (whole_list have) (cond none all (list_answer l (length out))) (Err Malformed) (cond none out (filled l out)) out (table_kept none (32 * (graph t).size) l out)
-kept (owner_of a c) t out = node_kept (graph t) (owner (graph t) a c) NoOwner out
+kept (owner_of a c) t out = node_kept (graph t) (owner (graph t) a c) (Err NoOwner) out
 kept heads t out = list_kept (head_hashes (graph t)) out
 kept head_indexes t out = list_kept (head_places (graph t)) out
-kept (index_to_hash k) t out = node_kept (graph t) k NotFound out
-kept (hash_for_actor_seq a q) t out = node_kept (graph t) (change_at (graph t) a q) NotFound out
+kept (index_to_hash k) t out = node_kept (graph t) k (Err NotFound) out
+kept (hash_for_actor_seq a q) t out = node_kept (graph t) (change_at (graph t) a q) (Err NotFound) out
 kept (deps_for_hash h) t out = either_kept (one_hash h) (list_answer (hash_deps (graph t) h) (length out)) (Err Malformed) (filled (hash_deps (graph t) h) out) out (list_kept (hash_deps (graph t) h) out)
 kept (actor_ids w) t out = list_kept (actor_list t w) out
 kept (remove_ancestors l hs) t out =

@@ -39,11 +39,11 @@ abbrev pub answer_on : Question → ℕ → Tables → Listed
 answer_on (clock_of l) room t = clock_told t l room
 answer_on (clock_at l) room t = op_clock_told t l room
 answer_on (missing_from have) room t = missing_told (graph t) have room
-answer_on (owner_of a c) room t = node_hash (graph t) (owner (graph t) a c) NoOwner room
+answer_on (owner_of a c) room t = node_hash (graph t) (owner (graph t) a c) (Err NoOwner) room
 answer_on heads room t = list_answer (head_hashes (graph t)) room
 answer_on head_indexes room t = list_answer (head_places (graph t)) room
-answer_on (index_to_hash k) room t = node_hash (graph t) k NotFound room
-answer_on (hash_for_actor_seq a q) room t = node_hash (graph t) (change_at (graph t) a q) NotFound room
+answer_on (index_to_hash k) room t = node_hash (graph t) k (Err NotFound) room
+answer_on (hash_for_actor_seq a q) room t = node_hash (graph t) (change_at (graph t) a q) (Err NotFound) room
 answer_on (deps_for_hash h) room t = deps_told (graph t) h room
 answer_on (actor_ids w) room t = list_answer (actor_list t w) room
 answer_on (remove_ancestors l hs) room t = removed_told (graph t) l hs room

@@ -18,7 +18,7 @@ pub record SliceGave (g : Result ℕ ClockRefusal) (l : List ℕ) (r : ℕ) (l' 
   pub place : l' ≡ entry_in g l
 
 -- a change that comes to t: the number r, and the entries c'
-pub record SliceChanged (t : EntriesLeft (Unit {0})) (r : ℕ) (c' : List ℕ) : Type 0 where
+pub record SliceChanged {A : Type 0} (t : EntriesLeft A) (r : ℕ) (c' : List ℕ) : Type 0 where
   pub number : r ≡ clock_number t.answer
   pub entries : c' ≡ t.entries
 

@@ -100,9 +100,9 @@ module _ (hs ns ts xs cs us : List ℕ) (a : ℕ) (l : Lengths (tables hs ns ts 
 
 -- ---- what filling needs
 
-pub fillable : (c : Columns) → Agreed c → Fillable c
+pub fillable_columns : (c : Columns) → Agreed c → Fillable c
 unfolding deps_before
-fillable c g = record {
+fillable_columns c g = record {
   actors_long = g.actors_long;
   seqs_long = g.seqs_long;
   max_ops_long = g.max_ops_long;
@@ -113,9 +113,22 @@ fillable c g = record {
   down = g.down;
 }
 
--- ---- laws that no proof needs any more
+-- ---- laws that no proof needs any more: filling does not look at heads and actors' number
 
 module _ (hs ws ss ms os ds vs ts : List ℕ) (a : ℕ) where
+  pub fillable : Agreed (columns hs ws ss ms os ds vs ts a) → Fillable (columns hs ws ss ms os ds vs [] 0)
+  unfolding deps_before
+  fillable g = let f = fillable_columns (columns hs ws ss ms os ds vs ts a) g in record {
+    actors_long = f.actors_long;
+    seqs_long = f.seqs_long;
+    max_ops_long = f.max_ops_long;
+    op_counts_long = f.op_counts_long;
+    dep_counts_long = f.dep_counts_long;
+    few = f.few;
+    enough = f.enough;
+    down = f.down;
+  }
+
   pub same_changes : changes_of (columns hs ws ss ms os ds vs [] 0) ≡ changes_of (columns hs ws ss ms os ds vs ts a)
   unfolding changes_of deps_before
   same_changes = refl

@@ -1,7 +1,7 @@
 // The small questions about a graph in valid tables: a hash's node and a node's hash, an actor's changes, counts. Nothing is changed but the lent buffer.
 #![tactic(auto)]
 
-ghost use Rattle.std.specs.Prelude.{◌≡◌, Bool, ◌&&◌, ℕ, ◌+◌, ◌*◌, ◌≤◌, ◌<◌, eqb, ltb, length};
+ghost use Rattle.std.specs.Prelude.{◌≡◌, Bool, ◌&&◌, ℕ, ◌+◌, ◌*◌, ◌≤◌, ◌<◌, eqb, ltb, length, Err};
 ghost use Rattle.paper.specs.Lists.{first_below, tally};
 ghost use Rattle.paper.specs.Graph.{change_at, max_op_of};
 ghost use Rattle.paper.specs.Adding.{seq_for_actor};
@@ -51,7 +51,7 @@ pub fn has_change(tables: &Tables, hash: &[u8]) -> Result<bool, Refusal>
 // The hash of node k.
 pub fn index_to_hash(tables: &Tables, k: u64, out: &mut [u8]) -> Result<usize, Refusal>
     requires { Valid (lists tables.now) }
-    ensures value { result ≡ node_hash (graph (lists tables.now)) k NotFound (length out.old) }
+    ensures value { result ≡ node_hash (graph (lists tables.now)) k (Err NotFound) (length out.old) }
     ensures out_after { out.new ≡ node_hash_filled (graph (lists tables.now)) k out.old }
 {
     if tables.counts[0] as u64 <= k {
@@ -81,7 +81,7 @@ pub fn get_hash_for_actor_seq(
     out: &mut [u8],
 ) -> Result<usize, Refusal>
     requires { Valid (lists tables.now) }
-    ensures value { result ≡ node_hash (graph (lists tables.now)) (change_at (graph (lists tables.now)) actor seq) NotFound (length out.old) }
+    ensures value { result ≡ node_hash (graph (lists tables.now)) (change_at (graph (lists tables.now)) actor seq) (Err NotFound) (length out.old) }
     ensures out_after { out.new ≡ node_hash_filled (graph (lists tables.now)) (change_at (graph (lists tables.now)) actor seq) out.old }
 {
     let n = tables.counts[0] as usize;

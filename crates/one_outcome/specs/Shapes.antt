@@ -117,7 +117,7 @@ slice_asked_once p q = (settled p.number q.number, settled p.place q.place)
 pub slice_gave_once : {g : Result ℕ ClockRefusal} {l l' l'' : List ℕ} {r' r'' : ℕ} → SliceGave g l r' l' → SliceGave g l r'' l'' → (r' ≡ r'') × (l' ≡ l'')
 slice_gave_once p q = (settled p.number q.number, settled p.place q.place)
 
-pub slice_changed_once : {t : EntriesLeft (Unit {0})} {c' c'' : List ℕ} {r' r'' : ℕ} → SliceChanged t r' c' → SliceChanged t r'' c'' → (r' ≡ r'') × (c' ≡ c'')
+pub slice_changed_once : {A : Type 0} {t : EntriesLeft A} {c' c'' : List ℕ} {r' r'' : ℕ} → SliceChanged t r' c' → SliceChanged t r'' c'' → (r' ≡ r'') × (c' ≡ c'')
 slice_changed_once p q = (settled p.number q.number, settled p.entries q.entries)
 
 -- as structs

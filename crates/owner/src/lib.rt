@@ -1,7 +1,7 @@
 // The owner of an op: the actor's change of lowest sequence whose op range holds the counter. Nothing is changed but the lent buffer.
 #![tactic(auto)]
 
-ghost use Rattle.std.specs.Prelude.{◌≡◌, Bool, ℕ, ◌+◌, ◌*◌, ◌≤◌, ◌<◌, length};
+ghost use Rattle.std.specs.Prelude.{◌≡◌, Bool, ℕ, ◌+◌, ◌*◌, ◌≤◌, ◌<◌, length, Err};
 ghost use Rattle.paper.specs.Lists.{first_below};
 ghost use Rattle.paper.specs.Graph.{owner};
 ghost use Rattle.tables.specs.Lent.{lists};
@@ -49,7 +49,7 @@ pub fn opid_to_hash(
     out: &mut [u8],
 ) -> Result<usize, Refusal>
     requires { Valid (lists tables.now) }
-    ensures value { result ≡ node_hash (graph (lists tables.now)) (owner (graph (lists tables.now)) actor counter) NoOwner (length out.old) }
+    ensures value { result ≡ node_hash (graph (lists tables.now)) (owner (graph (lists tables.now)) actor counter) (Err NoOwner) (length out.old) }
     ensures out_after { out.new ≡ node_hash_filled (graph (lists tables.now)) (owner (graph (lists tables.now)) actor counter) out.old }
 {
     let n = tables.counts[0] as usize;

@@ -121,25 +121,29 @@ fn push_line(rt: &impl Print, line: &[u8], s: &mut Store) -> io::Result<()> {
 
 // qlist, blist
 fn list_line(rt: &impl Print, s: &Store) -> io::Result<()> {
-    let mut t = empty();
+    let mut hashes = [0u8; 256];
+    let mut numbers = [0u64; 40];
+    let mut deps = [0u8; 8192];
     let answer = queue::iter(
         &s.hashes,
         &s.numbers,
         &s.deps,
         &s.count,
-        &mut t.hashes,
-        &mut t.numbers,
-        &mut t.deps,
+        &mut hashes,
+        &mut numbers,
+        &mut deps,
     );
     match answer {
-        Ok(m) if m <= 256 => show(rt, &t.hashes, m),
+        Ok(m) if m <= 256 => show(rt, &hashes, m),
         _ => Ok(()),
     }
 }
 
 // qpop
 fn pop_line(rt: &impl Print, graph: &[u8], known: usize, s: &mut Store) -> io::Result<()> {
-    let mut t = empty();
+    let mut hashes = [0u8; 256];
+    let mut numbers = [0u64; 40];
+    let mut deps = [0u8; 8192];
     let answer = release::release(
         graph,
         known,
@@ -147,12 +151,12 @@ fn pop_line(rt: &impl Print, graph: &[u8], known: usize, s: &mut Store) -> io::R
         &mut s.numbers,
         &mut s.deps,
         &mut s.count,
-        &mut t.hashes,
-        &mut t.numbers,
-        &mut t.deps,
+        &mut hashes,
+        &mut numbers,
+        &mut deps,
     );
     match answer {
-        Ok(m) if m <= 256 => show(rt, &t.hashes, m),
+        Ok(m) if m <= 256 => show(rt, &hashes, m),
         _ => Ok(()),
     }
 }

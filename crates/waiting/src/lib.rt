@@ -101,7 +101,7 @@ fn apart(hashes: &[u8], numbers: &[u64], n: usize) -> bool
 }
 
 // Is what is lent a valid queue or batch?
-fn valid(hashes: &[u8], numbers: &[u64], deps: &[u8], count: &[u32]) -> bool
+pub fn valid(hashes: &[u8], numbers: &[u64], deps: &[u8], count: &[u32]) -> bool
     ensures { (result ≡ true) ↔ StoreValid hashes.now numbers.now deps.now count.now }
 {
     if !sized(hashes, numbers, deps, count) {

@@ -1,7 +1,7 @@
 -- What the two calls come to, with the closures that they are given.
 use Rattle.std.proofs.Common.{rules, ◌≡◌, ◌<◌, arith}
 use Rattle.actors.specs.Actors.{lower, narrow}
-use Rattle.actors.specs.ActorLaws.{rooms, narrowed}
+use Rattle.actors.specs.ActorLaws.{rooms, row_narrowed}
 use Rattle.clock.specs.Clock.{removed}
 use Rattle.actors.proofs.remove_actor.Goals as goal
 
@@ -12,5 +12,5 @@ returns-clause-counts_after c =
     let width = c.actor_room-w.ensures in
     let low : c.args.place < c.actor_room-w.result = omega arith in
     let clocks =
-    c.change_rows.ensures (narrow c.args.place) (λ row left l r. let made : left ≡ removed row c.actor_room-w.result c.args.place = search rules in rw made (narrowed row _ _ low l)) in
+    c.change_rows.ensures (narrow c.args.place) (λ row left l r. let made : left ≡ removed row c.actor_room-w.result c.args.place = search rules in rw made (row_narrowed row _ _ low l)) in
     rw (nodes, clocks, width)

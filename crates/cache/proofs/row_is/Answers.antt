@@ -1,23 +1,29 @@
--- Two slices of one length are equal exactly if they have the same entry at each index.
-use Rattle.std.proofs.Common.{rules, ◌≡◌, ℕ, ◌+◌, ◌-◌, ◌<◌, ◌≤◌, List, Bool, length, take, drop, get_or, sym, ap, ◌∙◌, arith, length-take, length-drop, get_or-take, get_or-drop, ext_get_or}
-use Rattle.std.specs.Prelude.{◌↔◌, true}
-use lib.Dec.{eqb}
-use lib.Pointwise.{pointwise}
-use Rattle.std.proofs.lemmas.Slice.Eq.{slice_eq-Decides}
-use Rattle.std.proofs.lemmas.Bool.Decides.{Decides-eqb}
-use Rattle.list_laws.specs.Iff.{same_answer}
+-- The test asks each index below the clock's length whether the two entries are equal.
+use Rattle.std.proofs.Common.{rules, ◌≡◌, ℕ, ◌+◌, ◌<◌, List, Bool, true, false, length, get_or, MatchBool, refl, ◌∙◌, arith}
+use Rattle.std.specs.Prelude.{◌↔◌}
+use Rattle.std.specs.List.{AllWithin, HoldsAt, range_with_len}
+use Rattle.std.proofs.lemmas.Iterator.{cases_from_all, YieldsList-from_range}
+use Rattle.std.proofs.lemmas.List.FromFn.{length-range_with_len, get_or-range_with_len}
+use Rattle.list_laws.specs.Iff.{yes, no}
 use Rattle.cache.specs.Cache.{RowIs}
 use Rattle.cache.proofs.row_is.Goals as goal
 
-equal_is_row : (rows clock : List ℕ) (from : ℕ) (r : Bool) → from + length clock ≤ length rows → r ≡ pointwise eqb (take (from + length clock - from) (drop from rows)) clock → (r ≡ true) ↔ RowIs rows from clock
-unfolding RowIs
-equal_is_row rows clock from r fits e =
-    let part = take (from + length clock - from) (drop from rows) in
-    let long : length part ≡ length clock = simp (length-take, length-drop) (omega arith) in
-    let entry : (a : ℕ) → a < length clock → get_or part a 0 ≡ get_or rows (from + a) 0 = λ a l. rw (get_or-take (from + length clock - from) (drop from rows) a 0 (omega arith), get_or-drop) in
-    same_answer (slice_eq-Decides Decides-eqb part clock r e)
-    (λ q a l. sym (entry a l) ∙ ap (λ (x : List ℕ). get_or x a 0) q)
-    (λ f. ext_get_or 0 part clock long (λ a l. let b : a < length clock = omega arith in entry a b ∙ f a b))
+-- place k of the numbers below n is k
+at_range : (n k : ℕ) → k < n → get_or (range_with_len 0 n) k 0 ≡ k
+at_range n k l = get_or-range_with_len 0 n k 0 l ∙ (omega arith)
+
+module _ (rows clock : List ℕ) (from : ℕ) where
+  abbrev Same : ℕ → Type 0
+  Same a = get_or rows (from + a) 0 ≡ get_or clock a 0
+
+  row_says : (r : Bool) → MatchBool r (AllWithin Same (range_with_len 0 (length clock)) 0 (length (range_with_len 0 (length clock)))) ((k : ℕ) × (k < length (range_with_len 0 (length clock))) × HoldsAt (λ a. Same a → ⊥) (range_with_len 0 (length clock)) k) → (r ≡ true) ↔ RowIs rows from clock
+  unfolding RowIs
+  row_says true h = yes (λ a l. rw (at_range (length clock) a l) at (h a 0 (omega arith) (rw (length-range_with_len 0 (length clock)) l)))
+  row_says false h =
+      let l : h.0 < length clock = rw (length-range_with_len 0 (length clock)) at h.1 in
+      no (λ f. (rw (at_range (length clock) h.0 l) at (h.2 0)) (f h.0 l))
 
 pub returns : goal.returns
-returns c = search (rules, equal_is_row)
+returns c =
+    let n = length c.args.clock.now in
+    row_says c.args.rows.now c.args.clock.now c.args.from _ (cases_from_all _ _ _ (Same c.args.rows.now c.args.clock.now c.args.from) (λ a. Same c.args.rows.now c.args.clock.now c.args.from a → ⊥) c.all.ensures.ran (YieldsList-from_range 0 n n refl (omega arith)) (λ k q h. search rules) (λ k q h. search rules))

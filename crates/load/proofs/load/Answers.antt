@@ -4,7 +4,7 @@ use Rattle.tables.specs.Tables.{Tables, tables}
 use Rattle.graph.specs.Place.{adds}
 use Rattle.paper.specs.Loading.{changes_of}
 use Rattle.columns.specs.Columns.{listed}
-use Rattle.load.specs.DoneLaws.{told, taken, kept, no_error, loaded_done, stored, stored_valid, fillable}
+use Rattle.load.specs.DoneLaws.{told, taken, kept, no_error, loaded_done, stored, stored_valid, fillable_columns}
 use Rattle.load.proofs.load.Goals as goal
 
 pub returns-in_err-judge-clause-counts_after : goal.returns-in_err-judge-clause-counts_after
@@ -30,7 +30,7 @@ pub fill-requires-clause-fillable : goal.fill-requires-clause-fillable
 fill-requires-clause-fillable c =
     let a = c.args in
     let t = tables a.hashes.now a.nodes.now a.targets.now a.nexts.now a.clocks.now a.counts.now in
-    fillable (listed a.columns.now)
+    fillable_columns (listed a.columns.now)
     (agreed (listed a.columns.now) (taken _ _ _ (listed a.columns.now) (no_error t (listed a.columns.now) (told t (listed a.columns.now) _ _ c.actor_room-rows.ensures c.in_ok-judge.ensures))).agreeing)
 
 pub returns-clause-counts_after : goal.returns-clause-counts_after
